@@ -1,0 +1,17 @@
+pub mod Spelling
+pub mod Going
+pub mod Depth
+pub mod Naming
+pub mod Failing
+pub mod Pooled
+pub mod Sound
+pub mod Halting
+pub mod Outcomes
+pub mod Single
+pub mod Scan
+pub mod Words
+pub mod Written
+pub mod Blanks
+pub mod Widths
+pub mod RoundTrip
+pub mod Endings

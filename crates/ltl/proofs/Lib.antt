@@ -1,0 +1,7 @@
+pub mod Same
+pub mod Once
+pub mod Parts
+pub mod Meanings
+pub mod Numbering
+pub mod Search
+pub mod Temporal

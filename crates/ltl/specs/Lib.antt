@@ -1,0 +1,4 @@
+pub mod Formula
+pub mod Lists
+pub mod Arena
+pub mod Laws
