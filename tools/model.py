@@ -1,5 +1,5 @@
 #!/usr/bin/env python3
-"""An independent model of names, rule texts and sheets, written from docs/ alone.
+"""An independent model of names, rule texts, sheets and verdicts, written from docs/ alone.
 
     model.py table     the examples of crates/checks, one to a line (its file stdin)
     model.py answers   what must come of each (its file stdout), from standard input
@@ -118,6 +118,37 @@ def write(node):
     return b"(" + write(node[1]) + kind + write(node[2]) + b")"
 
 
+def truth(node, names, lead, cycle):
+    """Whether the formula holds, at each position of the lead-in and of the cycle."""
+    letters, start = lead + cycle, len(lead)
+    places = range(len(letters))
+    kind = node[0]
+    if kind in (b"tt", b"ff"):
+        return [kind == b"tt" for _ in places]
+    if kind in (b"name", b"!"):
+        k = names.index(node[1])
+        return [(letters[i] >> k & 1 == 1) == (kind == b"name") for i in places]
+    if kind in (b"&", b"|"):
+        left, right = (truth(part, names, lead, cycle) for part in node[1:])
+        return [(left[i] and right[i]) if kind == b"&" else (left[i] or right[i]) for i in places]
+    part = truth(node[1], names, lead, cycle)
+    test = any if kind == b"F" else all
+    return [test(part[min(i, start) :]) for i in places]
+
+
+def judge(names, rule, lead, cycle, row):
+    if len(lead) + len(cycle) > 1024:
+        raise Refused(11, "round")
+    if not cycle:
+        raise Refused(10, "round")
+    for place, letter in enumerate(lead + cycle):
+        if letter >> len(names):
+            raise Refused(12, "round", place)
+    if row < len(lead) + len(cycle):
+        raise Refused(20, "round")
+    return "yes" if truth(rule, names, lead, cycle)[0] else "no"
+
+
 def sheet(data):
     if len(data) > 8192:
         raise Refused(21, "sheet", 8192)
@@ -174,6 +205,7 @@ def table():
     out += [b"rule :" + t for t in (b"tt", b"a", b"!", b"(tt&ff)", b"F")]
     out += [b"rule organic,wash:G(!organic|Fwash)", b"rule a1,a12,a2:((a1&a12)|Fa2)", b"rule tta,fft:(tta&!fft)", b"rule a,b:Gab"]
     out += [f"room {n} a,b:(Fa|Gb)".encode() for n in (0, 6, 7, 8)]
+    out += rounds()
     first = make([b"a", b"b"], b"(Fa|Gb)", [([], [2]), ([0], [2])])
     sheets = [
         first, b"", make([], b"tt"), make([], b"a"), field(1, b"a"), field(1, b"a") + field(3, b""), field(2, b"tt") + field(1, b"a"),
@@ -187,6 +219,37 @@ def table():
     out += [b"sheet " + s.hex().encode() for s in sheets]
     out += [b"cuts " + first.hex().encode(), b"flips " + first.hex().encode()]
     return b"\n".join(out) + b"\n"
+
+
+def rounds():
+    def line(row, lead, cycle, rule):
+        return f"round {row} {bytes(lead).hex() or '-'} {bytes(cycle).hex() or '-'} {rule}".encode()
+
+    out = [
+        line(1, [], [2], "a,b:(Fa|Gb)"), line(2, [0], [2], "a,b:(Fa|Gb)"), line(2, [], [1, 0], "a:FGa"), line(2, [], [1, 0], "a:GFa"),
+        line(2, [], [1, 2], "organic,wash:G(!organic|Fwash)"), line(2, [], [1, 0], "organic,wash:G(!organic|Fwash)"),
+        line(3, [2], [1, 0], "organic,wash:G(!organic|Fwash)"), line(3, [1, 2], [0], "organic,wash:G(!organic|Fwash)"),
+        line(1, [], [0], ":tt"), line(1, [], [0], ":ff"), line(1, [], [1], ":tt"), line(1, [], [0], ":GFtt"), line(1, [], [0], ":FGff"),
+        line(1024, [], [0] * 1023 + [1], "a:Fa"), line(1024, [], [1] * 1024, "a:Ga"), line(1024, [0] * 1023, [1], "a:FGa"),
+        line(1024, [1] * 1023, [0], "a:(a&FG!a)"), line(1025, [0] * 1024, [1], "a:Fa"), line(1024, [0] * 1024, [], "a:Fa"),
+        line(1025, [0] * 1025, [], "a:Fa"), line(9, [1], [], "a:Fa"), line(9, [], [], "a:Fa"), line(9, [], [8], "a,b,c:Fa"),
+        line(9, [1, 8], [16], "a,b,c:Fa"), line(9, [1, 7], [16], "a,b,c:Fa"), line(9, [9], [], "a,b,c:Fa"), line(0, [9], [0], "a,b,c:Fa"),
+        line(2, [1], [0, 1], "a:Fa"), line(3, [1], [0, 1], "a:Fa"), line(0, [], [1], "a:Fa"), line(1, [], [63], "a,b,c,d,e,f:Gf"),
+        line(1, [], [64], "a,b,c,d,e,f:Gf"), line(1, [], [255], "a,b,c,d,e,f:Gf"),
+    ]
+    rules = ["a", "!a", "Fa", "Ga", "FGa", "GFa", "(Fa|Gb)", "(GFa&GF!a)", "G(a|Fb)", "F(a&Gb)", "(FGa|GFb)", "(a&F(b&F(!a&Fb)))",
+             "G(!a|F(b&!a))", "((FGa|GFb)&(FG!b|GFa))", "GFGFGFGFa", "F(G!a|(b&Fa))", "(tt&(ff|!b))"]
+    letters, seed = [], 1
+    for k in range(40):
+        lead, cycle = [], []
+        for part, most in ((lead, 4), (cycle, 4)):
+            seed = seed * 1103515245 + 12345 & 0x7FFFFFFF
+            size = (seed >> 16) % most + (part is cycle)
+            for _ in range(size):
+                seed = seed * 1103515245 + 12345 & 0x7FFFFFFF
+                part.append(seed >> 16 & 3)
+        letters.append((lead, cycle))
+    return out + [line(8, lead, cycle, f"a,b:{rule}") for rule in rules for lead, cycle in letters]
 
 
 def answer(make_it):
@@ -212,6 +275,16 @@ def answers(line):
             if len(written) > room:
                 raise Refused(20, "rule")
             return "rule " + written.decode()
+
+        yield answer(one)
+    elif kind == b"round":
+        row, lead, cycle, rest = rest.split(b" ", 3)
+        words, text = rest.split(b":", 1)
+        lead, cycle = (bytes.fromhex(part.decode()) if part != b"-" else b"" for part in (lead, cycle))
+
+        def one():
+            names = declare(words.split(b",")) if words else []
+            return judge(names, read(names, text), lead, cycle, int(row))
 
         yield answer(one)
     else:

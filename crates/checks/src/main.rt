@@ -1,4 +1,5 @@
 // Worked examples, one to a line of standard input, each printed with what came of it; the stored output says what must come.
+use evaluate::satisfies;
 use names::Names;
 use refusal::Refusal;
 use rule::Rule;
@@ -120,12 +121,45 @@ fn turn(bytes: &mut Vec<u8>, i: usize, mask: u8) {
     }
 }
 
+// ROW LEAD-IN CYCLE NAMES:TEXT, the letters in hexadecimal, or `-` for none
+fn check_round(rt: &LibcRuntime, line: &str) -> Result<(), AnyError> {
+    let (row, rest) = line.split_once(' ').ok_or("round wants a row")?;
+    let (lead, rest) = rest.split_once(' ').ok_or("round wants a lead-in")?;
+    let (cycle, rest) = rest.split_once(' ').ok_or("round wants a cycle")?;
+    let (words, text) = rest.split_once(':').ok_or("round wants names:text")?;
+    let names = match declare(words) {
+        Ok(names) => names,
+        Err(refusal) => return print_refusal(rt, refusal),
+    };
+    let rule = match Rule::read(&names, text.as_bytes()) {
+        Ok(rule) => rule,
+        Err(refusal) => return print_refusal(rt, refusal),
+    };
+    // what the row holds before must not matter
+    let mut row = vec![in rt.alloc(); u32::MAX; row.parse::<usize>()?]?;
+    let lead = bytes_of(rt, lead)?;
+    let cycle = bytes_of(rt, cycle)?;
+    print_verdict(
+        rt,
+        satisfies(&rule, lead.as_slice(), cycle.as_slice(), row.as_mut_slice()),
+    )
+}
+
+fn print_verdict(rt: &LibcRuntime, verdict: Result<bool, Refusal>) -> Result<(), AnyError> {
+    match verdict {
+        Ok(true) => Ok(println!(rt, "yes")?),
+        Ok(false) => Ok(println!(rt, "no")?),
+        Err(refusal) => print_refusal(rt, refusal),
+    }
+}
+
 fn check_line(rt: &LibcRuntime, line: &str) -> Result<(), AnyError> {
     let (kind, rest) = line.split_once(' ').ok_or("a line wants a kind")?;
     match kind {
         "names" => check_names(rt, rest),
         "rule" => check_rule(rt, rest, 1024),
         "room" => check_room(rt, rest),
+        "round" => check_round(rt, rest),
         "sheet" => print_sheet(rt, bytes_of(rt, rest)?.as_slice()),
         "cuts" => check_cuts(rt, bytes_of(rt, rest)?.as_slice()),
         "flips" => check_flips(rt, bytes_of(rt, rest)?),

@@ -5,3 +5,6 @@ pub mod Meanings
 pub mod Numbering
 pub mod Search
 pub mod Temporal
+pub mod Bounded
+pub mod Truth
+pub mod RoundWords

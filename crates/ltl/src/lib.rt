@@ -2,6 +2,7 @@
 ghost use mathlib.Core.Path.{_≡_};
 ghost use Rattle.ltl.specs.Arena.{sameNode, joinNode, temporal};
 ghost use Rattle.ltl.specs.Laws.{Numbering};
+ghost use Rattle.ltl.specs.Rounds.{RoundsRepeat, Settling, Unrolling};
 
 // One subformula, its parts named by smaller numbers; an atom is a name's number.
 #[derive(Clone, Copy)]
@@ -63,6 +64,15 @@ impl Node {
 // The numbering lists each subformula once, in the order in which its last byte is read, and ends in the formula.
 pub fn numbering_stands() -> u8
     ensures { λ _. ⌜ Numbering ⌝ }
+{
+    0
+}
+
+// Truth on endless words: one position at a time, and settled on a word that repeats, as every round's word does.
+pub fn truth_stands() -> u8
+    ensures unrolls { λ _. ⌜ Unrolling ⌝ }
+    ensures settles { λ _. ⌜ Settling ⌝ }
+    ensures repeats { λ _. ⌜ RoundsRepeat ⌝ }
 {
     0
 }

@@ -1,4 +1,5 @@
 // A rule's text, read into the numbered formula and written back.
+pub mod access;
 pub mod held;
 pub mod pool;
 pub mod reader;

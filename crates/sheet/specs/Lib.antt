@@ -1,3 +1,4 @@
 pub mod Layout
 pub mod Contents
 pub mod Laws
+pub mod Turns

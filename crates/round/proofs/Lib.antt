@@ -1,0 +1,2 @@
+pub mod Letterwise
+pub mod Granted
