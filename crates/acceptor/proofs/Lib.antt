@@ -1,0 +1,4 @@
+pub mod Walking
+pub mod Places
+pub mod Positions
+pub mod Verdicts

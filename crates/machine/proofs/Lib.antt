@@ -1,0 +1,3 @@
+pub mod Single
+pub mod Looping
+pub mod Alike

@@ -1,0 +1,4 @@
+pub mod Machines
+pub mod Runs
+pub mod Judging
+pub mod Laws
