@@ -1,0 +1,13 @@
+pub mod Tests
+pub mod Bits
+pub mod Values
+pub mod Growth
+pub mod Recasts
+pub mod Truths
+pub mod Obliged
+pub mod Members
+pub mod Accepted
+pub mod Satisfied
+pub mod Letterwise
+pub mod Limited
+pub mod Says

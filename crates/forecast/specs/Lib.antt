@@ -1,0 +1,5 @@
+pub mod Bounded
+pub mod Forecasts
+pub mod Steady
+pub mod Rules
+pub mod Laws
