@@ -48,7 +48,7 @@ def files():
 
 
 def is_answer(path):
-    return os.path.basename(path) in ("Answers.antt", "Invariants.antt", "Proof.antt")
+    return "proofs" in path.split(os.sep) and os.path.basename(path) in ("Answers.antt", "Invariants.antt", "Proof.antt")
 
 
 def read(path):

@@ -1,4 +1,6 @@
 // What runs on a round, what accepts it, and the judge of runs.
+#![tactic(auto)]
+
 pub mod judge;
 pub mod judgement;
 mod steps;

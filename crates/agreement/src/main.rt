@@ -1,5 +1,7 @@
 // Rounds judged in every way there is: straight from rule and round, and by the rule's automaton. Standard input has a table of
 // rules and rounds, the stored output what an independent model makes of them.
+#![tactic(auto)]
+
 use acceptor::{Acceptor, Judgement};
 use anyhow::{Context, anyhow};
 use evaluate::satisfies;

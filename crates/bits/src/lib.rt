@@ -1,4 +1,6 @@
 // The bits of machine words.
+#![tactic(auto)]
+
 ghost use Rattle.std.specs.Prelude.{◌≡◌};
 ghost use Rattle.ltl.specs.Words.{bit};
 

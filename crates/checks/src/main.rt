@@ -1,4 +1,6 @@
 // Worked examples, one to a line of standard input, each printed with what came of it; the stored output says what must come.
+#![tactic(auto)]
+
 use anyhow::{Context, anyhow};
 use evaluate::satisfies;
 use names::Names;

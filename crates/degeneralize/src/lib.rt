@@ -1,4 +1,6 @@
 // The turned acceptor: over an acceptor of at most 16 pairs, one whose pairs have one visit set each.
+#![tactic(auto)]
+
 pub mod turned;
 mod turns;
 

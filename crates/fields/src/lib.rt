@@ -1,4 +1,6 @@
 // Fields: a tag byte, a length of two bytes with the high byte first, and that many bytes.
+#![tactic(auto)]
+
 pub mod piece;
 pub mod walk;
 

@@ -1,4 +1,6 @@
 // What a rule's text spells, and what reading and writing it come to.
+#![tactic(auto)]
+
 ghost use Rattle.grammar.specs.Laws.{EndingOrder, Reading, RoundTrip};
 
 // Each outcome of reading comes exactly under its own condition.

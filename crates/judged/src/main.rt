@@ -1,4 +1,6 @@
 // Rounds judged by hand: each line says what the judge makes of one, and the stored output says what must come.
+#![tactic(auto)]
+
 mod counter;
 
 use acceptor::Judgement;

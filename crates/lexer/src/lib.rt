@@ -1,4 +1,6 @@
 // The marks of a rule's text, each with its place.
+#![tactic(auto)]
+
 pub mod expect;
 pub mod scan;
 pub mod token;

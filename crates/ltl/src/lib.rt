@@ -1,4 +1,6 @@
 // Formulae of LTL(F,G), and the numbered formula that a rule is held as.
+#![tactic(auto)]
+
 ghost use Rattle.std.specs.Prelude.{◌≡◌};
 ghost use Rattle.ltl.specs.Arena.{same_node, join_node, temporal};
 ghost use Rattle.ltl.specs.Laws.{Numbering};

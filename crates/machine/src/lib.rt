@@ -1,4 +1,6 @@
 // Machines with generalized Rabin pairs, their runs, and the laws of judging them.
+#![tactic(auto)]
+
 ghost use Rattle.machine.specs.Laws.{JudgedAlike, Looping, OneJudgement};
 
 // A round has one judgement, told by the stretch between two equal states.

@@ -1,4 +1,6 @@
 // The names that a rule may speak of: up to six, in the order of their bits.
+#![tactic(auto)]
+
 pub mod access;
 pub mod declare;
 pub mod list;

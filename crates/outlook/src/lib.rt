@@ -1,4 +1,6 @@
 // What the forecasts of a rule say, for all letters at once.
+#![tactic(auto)]
+
 mod deciding;
 mod letters;
 mod odds;

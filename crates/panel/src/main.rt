@@ -1,4 +1,6 @@
 // Reads one sheet from standard input and prints its rule and the verdict on each round, or its refusal.
+#![tactic(auto)]
+
 use evaluate::satisfies;
 use refusal::Refusal;
 use rule::Rule;

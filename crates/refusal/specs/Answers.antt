@@ -29,15 +29,15 @@ number FullTrail = 19
 number ShortOutput = 20
 number BadField = 21
 
-abbrev pub layerName : Layer → List ℕ
-layerName Names = codes "names"
-layerName Rule = codes "rule"
-layerName Round = codes "round"
-layerName Turn = codes "turn"
-layerName Build = codes "build"
-layerName Judge = codes "judge"
-layerName Saved = codes "saved"
-layerName Sheet = codes "sheet"
+abbrev pub layer_name : Layer → List ℕ
+layer_name Names = codes "names"
+layer_name Rule = codes "rule"
+layer_name Round = codes "round"
+layer_name Turn = codes "turn"
+layer_name Build = codes "build"
+layer_name Judge = codes "judge"
+layer_name Saved = codes "saved"
+layer_name Sheet = codes "sheet"
 
 -- a refusal as it is told: its number, the layer that found it, a place
 pub record Said : Type 0 where

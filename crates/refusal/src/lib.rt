@@ -1,6 +1,8 @@
 // Every refusal of the panel: what was wrong, the layer that found it, and a place.
+#![tactic(auto)]
+
 ghost use Rattle.std.specs.Prelude.{◌≡◌};
-ghost use Rattle.refusal.specs.Answers.{number, layerName};
+ghost use Rattle.refusal.specs.Answers.{number, layer_name};
 
 // What was wrong, in the order of the numbers 1 to 21.
 #[derive(Clone, Copy)]
@@ -93,7 +95,7 @@ impl Cause {
 impl Layer {
     // The word that a report prints.
     pub fn name(self) -> &'static str
-        ensures { result.now ≡ layerName self }
+        ensures { result.now ≡ layer_name self }
     {
         match self {
             Layer::Names => "names",

@@ -1,4 +1,6 @@
 // Rounds: a lead-in once, then a cycle for ever.
+#![tactic(auto)]
+
 ghost use Rattle.std.specs.Prelude.{◌≡◌};
 ghost use Rattle.std.specs.List.{prefix_len};
 ghost use Rattle.refusal.specs.Answers.{answer};

@@ -1,4 +1,6 @@
 // A rule's text, read into the numbered formula and written back.
+#![tactic(auto)]
+
 pub mod access;
 pub mod held;
 pub mod pool;

@@ -1,4 +1,6 @@
 // The sheet that the office writes: names, a rule, and rounds, as a row of fields.
+#![tactic(auto)]
+
 pub mod letters;
 pub mod order;
 pub mod reading;

@@ -1,4 +1,6 @@
 // The automaton of a rule.
+#![tactic(auto)]
+
 pub mod course;
 mod held;
 mod listing;

@@ -1,4 +1,6 @@
 // The turned machine, whose pairs have one visit set each, and the law that it accepts what the machine accepts.
+#![tactic(auto)]
+
 ghost use Rattle.turning.specs.Laws.{KeepsAcceptance, KeepsFirstPair, KeepsLimits, KeepsVerdict, PlainPairs};
 
 // A state of a machine of at most 16 pairs, and for each pair its turn: the visit set that it waits for.

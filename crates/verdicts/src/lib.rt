@@ -1,4 +1,6 @@
 // The judgement of a round by a rule's automaton: yes exactly when the round's endless word satisfies the rule.
+#![tactic(auto)]
+
 mod bare;
 mod turned;
 
