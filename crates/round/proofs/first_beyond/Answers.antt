@@ -3,13 +3,13 @@ use Rattle.ltl.proofs.Search.{passed_more, passed_here, passed_all}
 use Rattle.round.specs.Letters.{within}
 use Rattle.round.proofs.first_beyond.Goals as goal
 
-pub returns-then-not-is-within : goal.returns-then-not-is-within
-returns-then-not-is-within c =
-    passed_here (within c.args.n) c.args.letters.now c.loop-i.i c.loop-i.invariant 0 (omega arith) (sym c.if-not-is-within.ensures)
+pub returns-then-not-is_within : goal.returns-then-not-is_within
+returns-then-not-is_within c =
+    passed_here (within c.args.n) c.args.letters.now c.loop-i.i c.loop-i.invariant 0 (omega arith) (sym c.if-not-is_within.ensures)
 
 pub loop-i-preserved : goal.loop-i-preserved
 loop-i-preserved c =
-    passed_more (within c.args.n) c.args.letters.now c.loop-i.i c.loop-i.invariant 0 (omega arith) (sym c.if-not-is-within.ensures)
+    passed_more (within c.args.n) c.args.letters.now c.loop-i.i c.loop-i.invariant 0 (omega arith) (sym c.if-not-is_within.ensures)
 
 pub returns : goal.returns
 returns c =

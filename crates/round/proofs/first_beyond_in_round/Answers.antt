@@ -6,13 +6,13 @@ use Rattle.round.proofs.first_beyond_in_round.Goals as goal
 
 pub returns-then-place-lead : goal.returns-then-place-lead
 returns-then-place-lead c =
-    let place = c.first-beyond-place.ensures in
+    let place = c.first_beyond-place.ensures in
     place ∙ leading_first (within c.args.n) c.args.lead.now c.args.cycle.now (omega arith)
 
-pub overflow-add-result : goal.overflow-add-result
-overflow-add-result c = omega (arith, c.first-beyond.ensures, prefix_len-le-length (within c.args.n) c.args.cycle.now)
+pub overflow_add-result : goal.overflow_add-result
+overflow_add-result c = omega (arith, c.first_beyond.ensures, prefix_len-le-length (within c.args.n) c.args.cycle.now)
 
 pub returns : goal.returns
 returns c =
-    let place = c.first-beyond-place.ensures in
-    omega (arith, c.first-beyond.ensures, leading_second (within c.args.n) c.args.lead.now c.args.cycle.now (omega arith))
+    let place = c.first_beyond-place.ensures in
+    omega (arith, c.first_beyond.ensures, leading_second (within c.args.n) c.args.lead.now c.args.cycle.now (omega arith))

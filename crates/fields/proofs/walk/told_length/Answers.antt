@@ -4,6 +4,6 @@ use Rattle.fields.proofs.walk.told_length.Goals as goal
 
 pub returns : goal.returns
 returns c =
-    let high = (c.type-inv.bytes (c.args.at + 1)).fits in
-    let low = (c.type-inv.bytes (c.args.at + 2)).fits in
+    let high = c.type_inv.bytes (c.args.at + 1) in
+    let low = c.type_inv.bytes (c.args.at + 2) in
     record { value = told_at c.args.bytes.now c.args.at; bound = omega arith }

@@ -18,13 +18,13 @@ returns-then-bytes-place-lt3 c =
 pub returns-then-bytes-body : goal.returns-then-bytes-body
 returns-then-bytes-body c =
     let f = c.args.self.now in
-    record { outcome = sym (ap next (parts_cut (bytes_of f) f.at c.if-place-bytes.false (omega (arith, c.told-length-length.ensures.value)))); same = refl }
+    record { outcome = sym (ap next (parts_cut (bytes_of f) f.at c.if-place-bytes.false (omega (arith, c.told_length-length.ensures.value)))); same = refl }
 
 pub returns : goal.returns
 returns c =
     let f = c.args.self.now in
-    let n = c.told-length-length.result in
+    let n = c.told_length-length.result in
     let whole-body : f.at + 3 + n - (f.at + 3) ≡ n = omega arith in
     let part = ap (λ k. took f.at (get_or (bytes_of f) f.at 0) (take k (drop (f.at + 3) (bytes_of f))) (parts_from (f.at + 3 + n) 0 (drop (f.at + 3 + n) (bytes_of f)))) whole-body in
     let fits : f.at + 3 + n ≤ length (bytes_of f) = omega arith in
-    record { outcome = part ∙ sym (ap next (parts_whole (bytes_of f) f.at c.if-place-bytes.false n c.told-length-length.ensures.value fits)); same = refl }
+    record { outcome = part ∙ sym (ap next (parts_whole (bytes_of f) f.at c.if-place-bytes.false n c.told_length-length.ensures.value fits)); same = refl }

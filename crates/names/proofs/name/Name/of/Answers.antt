@@ -5,10 +5,10 @@ use Rattle.names.proofs.name.Name.of.Goals as goal
 zeros : List ℕ
 zeros = 0 ∷ 0 ∷ 0 ∷ 0 ∷ 0 ∷ 0 ∷ 0 ∷ 0 ∷ []
 
-pub invariant-of-result : goal.invariant-of-result
+pub invariant_of-result : goal.invariant_of-result
 unfolding zeros
-invariant-of-result c = (c.requires, (row_length c.args.word.now c.copy-from-slice.new.self zeros c.copy-from-slice.ensures.after c.requires refl, tt))
+invariant_of-result c = record { few = c.requires; size = row_length c.args.word.now c.copy_from_slice.new.self zeros c.copy_from_slice.ensures.after c.requires refl }
 
 pub returns : goal.returns
 unfolding zeros
-returns c = row_front c.args.word.now c.copy-from-slice.new.self zeros c.copy-from-slice.ensures.after c.requires refl
+returns c = row_front c.args.word.now c.copy_from_slice.new.self zeros c.copy_from_slice.ensures.after c.requires refl
