@@ -7,32 +7,32 @@ use Rattle.acceptor.specs.Said.{told, machine}
 use Rattle.acceptor.proofs.Verdicts.{apart_full, first_yes, none_no}
 use Rattle.acceptor.proofs.judge.judge.Goals as goal
 
-pub returns-in-err-check : goal.returns-in-err-check
-returns-in-err-check g c =
+pub returns-in_err-check : goal.returns-in_err-check
+returns-in_err-check g c =
     let m = machine (g.A.Course.moves c.args.acceptor.now) (g.A.Acceptor.judges c.args.acceptor.now) in
     let same = ap (λ n. sound n c.args.lead.now c.args.cycle.now) (sym c.names.ensures.value) in
     subst (Judged m c.args.lead.now c.args.cycle.now (length c.args.trail.now))
-    (sym (handed_on c.in-err-check.field-0.0 told c.from-residual.result c.from-residual.ensures.1))
-    (unsound _ (same ∙ sym c.in-err-check.ensures))
+    (sym (handed_on c.in_err-check.field-0.0 told c.from_residual.result c.from_residual.ensures.1))
+    (unsound _ (same ∙ sym c.in_err-check.ensures))
 
 pub returns-in-None : goal.returns-in-None
 returns-in-None g c =
     let m = machine (g.A.Course.moves c.args.acceptor.now) (g.A.Acceptor.judges c.args.acceptor.now) in
     subst (Judged m c.args.lead.now c.args.cycle.now (length c.args.trail.now)) (sym (retold c.new.ensures))
     (apart_full m c.args.lead.now c.args.cycle.now
-    c.names.ensures.value c.in-ok-check.ensures c.start.ensures c.after-first.ensures
+    c.names.ensures.value c.in_ok-check.ensures c.start.ensures c.after-first.ensures
     (length c.args.trail.now) c.in-None.ensures)
 
-pub returns-in-Some-first-favoured : goal.returns-in-Some-first-favoured
-returns-in-Some-first-favoured g c =
+pub returns-in-Some-first_favoured : goal.returns-in-Some-first_favoured
+returns-in-Some-first_favoured g c =
     let m = machine (g.A.Course.moves c.args.acceptor.now) (g.A.Acceptor.judges c.args.acceptor.now) in
     first_yes m c.args.lead.now c.args.cycle.now
-    c.names.ensures.value c.in-ok-check.ensures c.start.ensures c.after-first.ensures
-    c.in-Some.ensures c.index-trail-from.is (omega arith) c.in-Some-first-favoured.ensures
+    c.names.ensures.value c.in_ok-check.ensures c.start.ensures c.after-first.ensures
+    c.in-Some.ensures c.index-trail-from.is (omega arith) c.in-Some-first_favoured.ensures
 
-pub returns-in-None-first-favoured : goal.returns-in-None-first-favoured
-returns-in-None-first-favoured g c =
+pub returns-in-None-first_favoured : goal.returns-in-None-first_favoured
+returns-in-None-first_favoured g c =
     let m = machine (g.A.Course.moves c.args.acceptor.now) (g.A.Acceptor.judges c.args.acceptor.now) in
     none_no m c.args.lead.now c.args.cycle.now
-    c.names.ensures.value c.in-ok-check.ensures c.start.ensures c.after-first.ensures
-    c.in-Some.ensures c.index-trail-from.is (omega arith) c.in-None-first-favoured.ensures
+    c.names.ensures.value c.in_ok-check.ensures c.start.ensures c.after-first.ensures
+    c.in-Some.ensures c.index-trail-from.is (omega arith) c.in-None-first_favoured.ensures

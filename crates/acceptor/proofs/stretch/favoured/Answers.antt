@@ -35,7 +35,7 @@ returns g c =
     let m = g.A.Course.moves c.args.acceptor.now in
     let p = g.A.Acceptor.judges c.args.acceptor.now in
     let end : c.loop-turn.turn ≡ c.args.cycles = omega arith in
-    c.all-met.ensures
+    c.all_met.ensures
     ∙ ap (all (λ set. get_or c.loop-turn.met set false)) c.visits.ensures.value
     ∙ toured_favours m p c.args.from c.args.cycle.now c.args.cycles c.args.pair
     (subst (λ n. Toured m p c.args.pair c.args.from c.args.cycle.now n c.loop-turn.met c.loop-turn.state) end c.loop-turn.invariant)

@@ -10,7 +10,7 @@ returns-then-from-k g c =
     let b = turned m c.args.first c.args.cycle.now in
     let next = next_cycle m c.args.first c.args.cycle.now c.loop-k.k c.loop-k.invariant.here c.after-state.ensures in
     underway_closes b c.loop-k.trail c.args.first c.loop-k.k (omega arith) c.loop-k.invariant next
-    c.place-of-from.result (omega arith) (c.place-of-from.ensures.here (omega arith))
+    c.place_of-from.result (omega arith) (c.place_of-from.ensures.here (omega arith))
 
 pub loop-k-init : goal.loop-k-init
 loop-k-init g c = record {
@@ -25,7 +25,7 @@ loop-k-preserved g c =
     let b = turned m c.args.first c.args.cycle.now in
     let next = next_cycle m c.args.first c.args.cycle.now c.loop-k.k c.loop-k.invariant.here c.after-state.ensures in
     underway_more b c.loop-k.trail c.args.first c.loop-k.k (omega arith) c.loop-k.invariant next
-    (λ i h. c.place-of-from.ensures.before i (omega arith))
+    (λ i h. c.place_of-from.ensures.before i (omega arith))
 
 pub returns : goal.returns
 returns g c = λ i j h l. c.loop-k.invariant.apart i j h (omega arith)
