@@ -8,8 +8,8 @@ loop-pair-preserved g c =
     let pairs = g.A.Acceptor.judges c.args.inner.now in
     elim c.if-pair-lt16.branch [
       | then-pair-lt16 w ↦
-          moved_more pairs c.args.state.now c.args.turns.now c.loop-pair.pair c.loop-pair.invariant {v = w.turn-after.result}
-          w.moved-is w.turn-after.ensures
+          moved_more pairs c.args.state.now c.args.turns.now c.loop-pair.pair c.loop-pair.invariant {v = w.turn_after.result}
+          w.moved-is w.turn_after.ensures
       | else-pair-lt16 w ↦
           moved_none pairs c.args.state.now c.args.turns.now c.loop-pair.pair c.loop-pair.invariant w.moved-is (omega arith)
     ]

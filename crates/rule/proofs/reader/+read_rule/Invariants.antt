@@ -1,4 +1,4 @@
 use Rattle.rule.proofs.reader.+read_rule.Given as goal
 
-abbrev pub decreases-read-rule : goal.decreases-read-rule
-decreases-read-rule l = l.left
+abbrev pub decreases-read_rule : goal.decreases-read_rule
+decreases-read_rule l = l.left

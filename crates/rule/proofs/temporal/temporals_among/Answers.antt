@@ -5,17 +5,17 @@ use Rattle.std.proofs.lemmas.List.Sums.{count_by_more_yes, count_by_more_no}
 use Rattle.ltl.specs.declared.Node.TheVariants.{True}
 use Rattle.ltl.specs.Arena.{temporal, temporals}
 use Rattle.rule.proofs.temporal.temporals_among.Goals as goal
-use Rattle.rule.proofs.temporal.temporals_among.Goals.{then-is-temporal, else-is-temporal}
+use Rattle.rule.proofs.temporal.temporals_among.Goals.{then-is_temporal, else-is_temporal}
 
 pub loop-i-preserved : goal.loop-i-preserved
 loop-i-preserved c =
     let nodes = c.args.nodes.now in
     let i = c.loop-i.i in
     let inside : i < length nodes = omega arith in
-    let here = sym c.is-temporal.ensures in
-    elim c.if-is-temporal.branch [
-      | then-is-temporal w ↦ (omega (arith, w.found-is), omega (arith, w.found-is, count_by_more_yes temporal nodes i True inside (here ∙ w.if-is-temporal.true)))
-      | else-is-temporal w ↦ (omega (arith, w.found-is), omega (arith, w.found-is, count_by_more_no temporal nodes i True inside (here ∙ w.if-is-temporal.false)))
+    let here = sym c.is_temporal.ensures in
+    elim c.if-is_temporal.branch [
+      | then-is_temporal w ↦ (omega (arith, w.found-is), omega (arith, w.found-is, count_by_more_yes temporal nodes i True inside (here ∙ w.if-is_temporal.true)))
+      | else-is_temporal w ↦ (omega (arith, w.found-is), omega (arith, w.found-is, count_by_more_no temporal nodes i True inside (here ∙ w.if-is_temporal.false)))
     ]
 
 pub returns : goal.returns

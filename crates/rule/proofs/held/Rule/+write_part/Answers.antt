@@ -23,14 +23,14 @@ put-requires-in-NotAtom t c =
 pub put-first-requires : goal.put-first-requires
 put-first-requires t c = let p = part_at c.args.self.now c.args.k c.requires.0 c.in-And.is in omega arith
 
-pub write-part-operator-requires : goal.write-part-operator-requires
-write-part-operator-requires t c = let p = part_at c.args.self.now c.args.k c.requires.0 c.in-And.is in omega arith
+pub write_part-operator-requires : goal.write_part-operator-requires
+write_part-operator-requires t c = let p = part_at c.args.self.now c.args.k c.requires.0 c.in-And.is in omega arith
 
 pub put-second-requires : goal.put-second-requires
 put-second-requires t c = let p = part_at c.args.self.now c.args.k c.requires.0 c.in-And.is in omega arith
 
-pub write-part-bracket-requires : goal.write-part-bracket-requires
-write-part-bracket-requires t c = let p = part_at c.args.self.now c.args.k c.requires.0 c.in-And.is in omega arith
+pub write_part-bracket-requires : goal.write_part-bracket-requires
+write_part-bracket-requires t c = let p = part_at c.args.self.now c.args.k c.requires.0 c.in-And.is in omega arith
 
 pub put-requires-in-And : goal.put-requires-in-And
 put-requires-in-And t c = let p = part_at c.args.self.now c.args.k c.requires.0 c.in-And.is in omega arith
@@ -38,14 +38,14 @@ put-requires-in-And t c = let p = part_at c.args.self.now c.args.k c.requires.0 
 pub put-first-requires-in-Or : goal.put-first-requires-in-Or
 put-first-requires-in-Or t c = let p = part_at c.args.self.now c.args.k c.requires.0 c.in-Or.is in omega arith
 
-pub write-part-operator-requires-in-Or : goal.write-part-operator-requires-in-Or
-write-part-operator-requires-in-Or t c = let p = part_at c.args.self.now c.args.k c.requires.0 c.in-Or.is in omega arith
+pub write_part-operator-requires-in-Or : goal.write_part-operator-requires-in-Or
+write_part-operator-requires-in-Or t c = let p = part_at c.args.self.now c.args.k c.requires.0 c.in-Or.is in omega arith
 
 pub put-second-requires-in-Or : goal.put-second-requires-in-Or
 put-second-requires-in-Or t c = let p = part_at c.args.self.now c.args.k c.requires.0 c.in-Or.is in omega arith
 
-pub write-part-bracket-requires-in-Or : goal.write-part-bracket-requires-in-Or
-write-part-bracket-requires-in-Or t c = let p = part_at c.args.self.now c.args.k c.requires.0 c.in-Or.is in omega arith
+pub write_part-bracket-requires-in-Or : goal.write_part-bracket-requires-in-Or
+write_part-bracket-requires-in-Or t c = let p = part_at c.args.self.now c.args.k c.requires.0 c.in-Or.is in omega arith
 
 pub put-requires-in-Or : goal.put-requires-in-Or
 put-requires-in-Or t c = let p = part_at c.args.self.now c.args.k c.requires.0 c.in-Or.is in omega arith
@@ -53,14 +53,14 @@ put-requires-in-Or t c = let p = part_at c.args.self.now c.args.k c.requires.0 c
 pub put-part-requires : goal.put-part-requires
 put-part-requires t c = let p = part_at c.args.self.now c.args.k c.requires.0 c.in-Eventually.is in omega arith
 
-pub write-part-requires : goal.write-part-requires
-write-part-requires t c = let p = part_at c.args.self.now c.args.k c.requires.0 c.in-Eventually.is in omega arith
+pub write_part-requires : goal.write_part-requires
+write_part-requires t c = let p = part_at c.args.self.now c.args.k c.requires.0 c.in-Eventually.is in omega arith
 
 pub put-part-requires-in-Always : goal.put-part-requires-in-Always
 put-part-requires-in-Always t c = let p = part_at c.args.self.now c.args.k c.requires.0 c.in-Always.is in omega arith
 
-pub write-part-requires-in-Always : goal.write-part-requires-in-Always
-write-part-requires-in-Always t c = let p = part_at c.args.self.now c.args.k c.requires.0 c.in-Always.is in omega arith
+pub write_part-requires-in-Always : goal.write_part-requires-in-Always
+write_part-requires-in-Always t c = let p = part_at c.args.self.now c.args.k c.requires.0 c.in-Always.is in omega arith
 
 pub returns-in-True : goal.returns-in-True
 returns-in-True t c =
@@ -86,21 +86,21 @@ pub returns-in-And : goal.returns-in-And
 returns-in-And t c =
     let p = part_at c.args.self.now c.args.k c.requires.0 c.in-And.is in
     wrote_as (sym p.is) (wrote_joined 38 (part_in c.args.self.now c.in-And.i) (part_in c.args.self.now c.in-And.j) (omega arith)
-    c.put-first.ensures c.write-part-operator.ensures c.put-second.ensures c.write-part-bracket.ensures c.put-in-And.ensures)
+    c.put-first.ensures c.write_part-operator.ensures c.put-second.ensures c.write_part-bracket.ensures c.put-in-And.ensures)
 
 pub returns-in-Or : goal.returns-in-Or
 returns-in-Or t c =
     let p = part_at c.args.self.now c.args.k c.requires.0 c.in-Or.is in
     wrote_as (sym p.is) (wrote_joined 124 (part_in c.args.self.now c.in-Or.i) (part_in c.args.self.now c.in-Or.j) (omega arith)
-    c.put-first-in-Or.ensures c.write-part-operator-in-Or.ensures c.put-second-in-Or.ensures c.write-part-bracket-in-Or.ensures
+    c.put-first-in-Or.ensures c.write_part-operator-in-Or.ensures c.put-second-in-Or.ensures c.write_part-bracket-in-Or.ensures
     c.put-in-Or.ensures)
 
 pub returns-in-Eventually : goal.returns-in-Eventually
 returns-in-Eventually t c =
     let p = part_at c.args.self.now c.args.k c.requires.0 c.in-Eventually.is in
-    wrote_as (sym p.is) (wrote_more (omega arith) c.put-part.ensures c.write-part.ensures)
+    wrote_as (sym p.is) (wrote_more (omega arith) c.put-part.ensures c.write_part.ensures)
 
 pub returns-in-Always : goal.returns-in-Always
 returns-in-Always t c =
     let p = part_at c.args.self.now c.args.k c.requires.0 c.in-Always.is in
-    wrote_as (sym p.is) (wrote_more (omega arith) c.put-part-in-Always.ensures c.write-part-in-Always.ensures)
+    wrote_as (sym p.is) (wrote_more (omega arith) c.put-part-in-Always.ensures c.write_part-in-Always.ensures)

@@ -20,7 +20,7 @@ returns c =
     let r = c.args.self.now in
     let last = part_last r (r.count - 1) refl in
     let s = long_enough r c.args.out.now (omega (arith, ap length last)) in
-    let w = wrote_as last c.write-part.ensures in
+    let w = wrote_as last c.write_part.ensures in
     record {
       outcome = ap Ok (w.end ∙ omega arith) ∙ sym s.0;
       after = w.after ∙ pasted_front (word_in r) c.args.out.now ∙ sym s.1;

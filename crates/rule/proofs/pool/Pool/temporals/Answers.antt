@@ -6,17 +6,17 @@ use Rattle.ltl.specs.Arena.{temporal, temporals}
 use Rattle.rule.specs.Pools.{held}
 use Rattle.rule.proofs.Pooled.{pool_count, pool_at}
 use Rattle.rule.proofs.pool.Pool.temporals.Goals as goal
-use Rattle.rule.proofs.pool.Pool.temporals.Goals.{then-is-temporal, else-is-temporal}
+use Rattle.rule.proofs.pool.Pool.temporals.Goals.{then-is_temporal, else-is_temporal}
 
 pub loop-i-preserved : goal.loop-i-preserved
 loop-i-preserved c =
     let p = c.args.self.now in
     let i = c.loop-i.i in
     let in_row : i < length (held p).nodes = omega (arith, pool_count p) in
-    let here = ap temporal (pool_at p i True c.loop-i-test.true) ∙ sym c.is-temporal.ensures in
-    elim c.if-is-temporal.branch [
-      | then-is-temporal w ↦ (omega (arith, w.found-is), omega (arith, w.found-is, count_by_more_yes temporal (held p).nodes i True in_row (here ∙ w.if-is-temporal.true)))
-      | else-is-temporal w ↦ (omega (arith, w.found-is), omega (arith, w.found-is, count_by_more_no temporal (held p).nodes i True in_row (here ∙ w.if-is-temporal.false)))
+    let here = ap temporal (pool_at p i True c.loop-i-test.true) ∙ sym c.is_temporal.ensures in
+    elim c.if-is_temporal.branch [
+      | then-is_temporal w ↦ (omega (arith, w.found-is), omega (arith, w.found-is, count_by_more_yes temporal (held p).nodes i True in_row (here ∙ w.if-is_temporal.true)))
+      | else-is_temporal w ↦ (omega (arith, w.found-is), omega (arith, w.found-is, count_by_more_no temporal (held p).nodes i True in_row (here ∙ w.if-is_temporal.false)))
     ]
 
 pub returns : goal.returns
