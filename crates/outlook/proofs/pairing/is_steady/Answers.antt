@@ -21,8 +21,8 @@ returns-then-unmet c =
     let rule = c.args.rule.now in
     let k = c.loop-k.k in
     let inside : k < length (nodes_in rule) = omega (arith, c.count-k-end.ensures.value) in
-    let told = unmet_node rule c.args.forecast c.args.words.now c.requires.told k inside c.has-bit.result c.node.result
-    c.has-bit.ensures c.node.ensures c.args.allowed c.unmet.result c.requires.allowed c.unmet.ensures in
+    let told = unmet_node rule c.args.forecast c.args.words.now c.requires.told k inside c.has_bit.result c.node.result
+    c.has_bit.ensures c.node.ensures c.args.allowed c.unmet.result c.requires.allowed c.unmet.ensures in
     node_unmet (length (names_in rule)) (nodes_in rule) c.args.forecast k inside (sym told ∙ c.if-unmet.true)
 
 pub loop-k-preserved : goal.loop-k-preserved
@@ -33,8 +33,8 @@ loop-k-preserved c =
     let I = c.args.forecast in
     let k = c.loop-k.k in
     let inside : k < length ns = omega (arith, c.count-k-end.ensures.value) in
-    let told = unmet_node rule I c.args.words.now c.requires.told k inside c.has-bit.result c.node.result
-    c.has-bit.ensures c.node.ensures c.args.allowed c.unmet.result c.requires.allowed c.unmet.ensures in
+    let told = unmet_node rule I c.args.words.now c.requires.told k inside c.has_bit.result c.node.result
+    c.has_bit.ensures c.node.ensures c.args.allowed c.unmet.result c.requires.allowed c.unmet.ensures in
     let met = or_parts (each_f n ns I (never_holds n ns I) k) (other_g n ns I (never_fails n ns I) k) (sym told ∙ c.if-unmet.false) in
     (met_more (each_f n ns I (never_holds n ns I)) k c.loop-k.invariant.0 met.0, met_more (other_g n ns I (never_fails n ns I)) k c.loop-k.invariant.1 met.1)
 

@@ -24,9 +24,9 @@ loop-k-preserved c =
     let tidy = sound_tidy (length (names_in rule)) ns rule.sound in
     record {
       breaking = breaking_more ns tidy I ws c.requires k inside c.loop-k.odds.breaking c.failing.result
-          (c.failing.ensures ∙ ap₂ (λ b x. cond b (letters_on_g (λ q. others (get_or ws q 0)) x) 0) c.has-bit-inside.ensures c.node-node.ensures)
+          (c.failing.ensures ∙ ap₂ (λ b x. cond b (letters_on_g (λ q. others (get_or ws q 0)) x) 0) c.has_bit-inside.ensures c.node-node.ensures)
           c.loop-k.invariant.breaking;
       barred = barred_more ns tidy I ws c.requires k inside c.loop-k.odds.barred c.holding.result
-          (c.holding.ensures ∙ ap₂ (λ b x. cond (not b) (letters_on_f (λ q. get_or ws q 0) x) 0) c.has-bit-inside.ensures c.node-node.ensures)
+          (c.holding.ensures ∙ ap₂ (λ b x. cond (not b) (letters_on_f (λ q. get_or ws q 0) x) 0) c.has_bit-inside.ensures c.node-node.ensures)
           c.loop-k.invariant.barred;
     }
