@@ -17,8 +17,8 @@ loop-i-preserved c =
     let rows = c.args.rows.now in
     let i = c.loop-i.i in
     λ j h.
-    c.flag-row.ensures j h
+    c.flag_row.ensures j h
     ∙ ap₂ (λ x y. x || y) (c.loop-i.invariant j h)
-    (ap (λ k. some k (λ a. eqb (get_or (get_or rows i []) a 0) j)) c.letter-count-letters.ensures.value
-    ∙ some_same m _ (λ a. eqb (recast ns a i) j) (λ a l. ap (λ x. eqb x j) (c.requires i a (omega (arith, c.forecast-count-i-end.ensures.value), l))))
+    (ap (λ k. some k (λ a. eqb (get_or (get_or rows i []) a 0) j)) c.letter_count-letters.ensures.value
+    ∙ some_same m _ (λ a. eqb (recast ns a i) j) (λ a l. ap (λ x. eqb x j) (c.requires i a (omega (arith, c.forecast_count-i-end.ensures.value), l))))
     ∙ sym (some_next i _)

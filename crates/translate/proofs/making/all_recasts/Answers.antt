@@ -9,8 +9,8 @@ loop-j-preserved c =
     let rule = c.args.rule.now in
     let rows = c.loop-j.rows in
     let j = c.loop-j.j in
-    let row = c.recasts-of.result in (
+    let row = c.recasts_of.result in (
       length-set rows j row ∙ c.loop-j.invariant.0,
       filled_more (λ i r. (a : ℕ) → a < 2 ^ length (names_in rule) → get_or r a 0 ≡ recast (nodes_in rule) a i) rows [] row j
-          (omega (arith, c.loop-j.invariant.0, c.forecast-count-j-end.ensures.few)) c.loop-j.invariant.1 c.recasts-of.ensures,
+          (omega (arith, c.loop-j.invariant.0, c.forecast_count-j-end.ensures.few)) c.loop-j.invariant.1 c.recasts_of.ensures,
     )

@@ -10,8 +10,8 @@ loop-j-preserved c =
     let ns = nodes_in c.args.rule.now in
     let words = c.loop-j.words in
     let j = c.loop-j.j in
-    let word = c.rule-letters.result in (
+    let word = c.rule_letters.result in (
       length-set words j word ∙ c.loop-j.invariant.0,
       filled_more (λ i w. w ≡ letters_where (λ a. holds_at ns a i (length ns - 1))) words 0 word j
-          (omega (arith, c.loop-j.invariant.0, c.forecast-count-j-end.ensures.few)) c.loop-j.invariant.1 c.rule-letters.ensures,
+          (omega (arith, c.loop-j.invariant.0, c.forecast_count-j-end.ensures.few)) c.loop-j.invariant.1 c.rule_letters.ensures,
     )

@@ -12,5 +12,5 @@ returns c =
     let n = length (names_in x.rule) in
     let letter = c.args.letter in
     let by = stepped rule_states n (nodes_in x.rule) c.args.state.now in
-    let value = c.step.ensures ∙ ap by (ap₂ ◌%◌ c.from.ensures c.letter-count.ensures.value) in
+    let value = c.step.ensures ∙ ap by (ap₂ ◌%◌ c.from.ensures c.letter_count.ensures.value) in
     record { value = value; low = value ∙ ap by (sym (mod-eq_of_lt (mod-lt letter (pow_pos n)))) }

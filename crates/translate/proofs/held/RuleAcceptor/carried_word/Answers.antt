@@ -7,8 +7,8 @@ use Rattle.translate.proofs.held.RuleAcceptor.carried_word.Goals as goal
 pub loop-j-init : goal.loop-j-init
 loop-j-init c = sym (gathered_none _ _)
 
-pub with-bit-word-requires : goal.with-bit-word-requires
-with-bit-word-requires c =
+pub with_bit-word-requires : goal.with_bit-word-requires
+with_bit-word-requires c =
     let test = leads c.args.self.now c.args.set.now c.args.a in
     record {
       few = omega (arith, c.width-j-end.ensures.few);
@@ -19,4 +19,4 @@ pub loop-j-preserved : goal.loop-j-preserved
 loop-j-preserved c =
     let test = leads c.args.self.now c.args.set.now c.args.a in
     let j = c.loop-j.j in
-    c.with-bit-word.ensures ∙ ap₂ (λ w b. w + cond b (2 ^ j) 0) c.loop-j.invariant c.leads.ensures ∙ sym (gathered_more test c.args.base j)
+    c.with_bit-word.ensures ∙ ap₂ (λ w b. w + cond b (2 ^ j) 0) c.loop-j.invariant c.leads.ensures ∙ sym (gathered_more test c.args.base j)

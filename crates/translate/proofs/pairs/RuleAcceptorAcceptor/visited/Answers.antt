@@ -9,7 +9,7 @@ returns-in-Obliged c =
     let p = c.args.pair in
     let inside = c.if-pair-self.false in
     record {
-      value = c.in-set.ensures ∙ visited_right x p inside c.args.set c.if-set-self.false c.in-Obliged.forecasts c.in-Obliged.letter
+      value = c.in_set.ensures ∙ visited_right x p inside c.args.set c.if-set-self.false c.in-Obliged.forecasts c.in-Obliged.letter
           ∙ ap ((rule_judges x).visited p c.args.set) (sym c.in-Obliged.is);
       none = λ h. let z : ⊥ = omega (arith, visits_right x p inside) in absurd z;
     }
