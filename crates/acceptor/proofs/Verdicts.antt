@@ -12,7 +12,7 @@ use Rattle.machine.specs.Runs.{AcceptedBy}
 use Rattle.machine.specs.Judging.{bound, Passes, Judged, accepted, rejected}
 use Rattle.machine.specs.Judging.Judged.{full, yes_by, no_pair}
 use Rattle.machine.proofs.Looping.{sound_cycle, Favours, decided_pair}
-use Rattle.acceptor.specs.Walks.{along, turned, all, meets, favours, Apart, Closes, NoneBelow, FirstBelow}
+use Rattle.acceptor.specs.Walks.{along, turned, meets, favours, Apart, Closes, NoneBelow, FirstBelow}
 use Rattle.acceptor.proofs.Walking.{all_each, each_all}
 use Rattle.acceptor.proofs.Positions.{lead_run, turned_run, meets_found, meets_at, meets_none}
 

@@ -1,5 +1,4 @@
 -- The judge's answers as judgements, and an acceptor's meaning as one machine.
-use Rattle.std.specs.Prelude.{ℕ}
 use Rattle.machine.specs.Machines.{Course, Pairs, Machine}
 use Rattle.machine.specs.Judging as judging
 use Rattle.acceptor.specs.declared.judgement.Judgement.{Judgement}

@@ -1,5 +1,5 @@
 -- What a granted or a refused turned acceptor tells. Assumes nothing.
-use Rattle.std.proofs.Common.{◌≡◌, ℕ, ◌<◌, ◌≤◌, Bool, true, false, cond, leb, Ok, Err, Result, sym, ap, ◌∙◌, inl, inr, arith}
+use Rattle.std.proofs.Common.{◌≡◌, ℕ, ◌<◌, ◌≤◌, leb, Ok, Err, ◌∙◌, inl, inr, arith}
 use Rattle.std.proofs.lemmas.Bool.{cases_Bool, leb-true, leb-false, cond-true, cond-false}
 use Rattle.refusal.specs.declared.Layer.TheVariants.{Turn}
 use Rattle.refusal.specs.Answers.{Said, refused}

@@ -2,7 +2,7 @@
 use Rattle.std.proofs.Common.{◌≡◌, ℕ, zero, suc, ◌+◌, ◌*◌, ◌<◌, ◌≤◌, List, [], ◌∷◌, length, get_or, take, drop, sym, refl, ap, ◌∙◌, ap₂, arith, length-drop}
 use Rattle.std.proofs.lemmas.List.{drop_more, drop-drop, at_drop_all, get_or-drop}
 use Rattle.std.proofs.lemmas.Bool.{le-leb, lt-leb, cond-true, cond-false}
-use Rattle.fields.specs.Pieces.{Part, told, parts_from}
+use Rattle.fields.specs.Pieces.{told, parts_from}
 use Rattle.fields.specs.Pieces.Part.{whole, cut}
 
 -- bytes that belong to the field before are passed over

@@ -1,5 +1,5 @@
 -- Bytes as a row of fields.
-use Rattle.std.specs.Prelude.{ℕ, zero, suc, ◌+◌, ◌*◌, ◌/◌, ◌%◌, cond, List, [], ◌∷◌, ◌++◌, length, take, drop, nat_le, slice_index}
+use Rattle.std.specs.Prelude.{ℕ, zero, suc, ◌+◌, ◌*◌, ◌/◌, ◌%◌, cond, List, [], ◌∷◌, length, take, drop, nat_le, slice_index}
 
 -- a whole field with the place of its tag, or one that runs past the end
 pub data Part : Type 0 where

@@ -1,6 +1,5 @@
 -- A walk over the fields of bytes.
 use Rattle.std.specs.Prelude.{ℕ, List, [], ◌∷◌, drop}
-use Rattle.fields.specs.declared.piece.Field.{Field}
 use Rattle.fields.specs.declared.piece.Fields.{Fields}
 use Rattle.fields.specs.declared.piece.Piece.{Piece}
 use Rattle.fields.specs.declared.piece.Piece.TheVariants.{Whole, Cut, End}

@@ -10,7 +10,7 @@ use Rattle.ltl.specs.Words.{Word, bit, Sat}
 use Rattle.ltl.specs.Arena.{first_of, root, temporal, temporals}
 use Rattle.ltl.proofs.Meanings.{Tidy}
 use Rattle.machine.specs.Runs.{run, Infinitely, AcceptedBy}
-use Rattle.forecast.specs.Bounded.{some, all, nth}
+use Rattle.forecast.specs.Bounded.{all, nth}
 use Rattle.forecast.specs.Forecasts.{rank, holds_at}
 use Rattle.forecast.specs.Steady.{each_f, each_g, other_f, other_g, breaks, allowed, never_holds, never_fails, steady, visiting}
 use Rattle.forecast.specs.Rules.{States, course_of, pair_count, forecast_of, visit_count, visit_part, machine_of}

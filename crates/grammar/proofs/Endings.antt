@@ -9,7 +9,7 @@ use Rattle.grammar.specs.Marks.{Mark}
 use Rattle.grammar.specs.Marks.Mark.{opening, closing}
 use Rattle.grammar.specs.Grammar.{Spells}
 use Rattle.grammar.specs.Grammar.Spells.{spell_top, spell_bottom, spell_atom, spell_negated, spell_eventually, spell_always, spell_both, spell_either}
-use Rattle.grammar.specs.Laws.{Stands, EndingOrder}
+use Rattle.grammar.specs.Laws.{EndingOrder}
 
 -- a stretch of marks, from its first up to its last
 record Span : Type 0 where

@@ -1,10 +1,10 @@
 -- The marks of a text from a place on. Assumes nothing.
-use Rattle.std.proofs.Common.{◌≡◌, ℕ, zero, suc, ◌+◌, ◌-◌, ◌<◌, ◌≤◌, Bool, true, false, cond, eqb, List, [], ◌∷◌, length, get_or, take, drop, sym, refl, ap, ◌∙◌, ap₂, arith}
+use Rattle.std.proofs.Common.{◌≡◌, ℕ, zero, suc, ◌+◌, ◌-◌, ◌<◌, ◌≤◌, true, false, eqb, List, [], ◌∷◌, length, get_or, take, drop, sym, refl, ap, ◌∙◌, ap₂, arith}
 use Rattle.std.specs.List.{prefix_len}
 use Rattle.std.proofs.lemmas.List.{drop_more, drop-drop, at_drop_all}
 use Rattle.std.proofs.lemmas.Bool.{eq-eqb, ne_eqb, cond-true, cond-false}
 use Rattle.names.specs.Names.{lower, wordly}
-use Rattle.grammar.specs.Marks.{Mark, Placed, mark_of, word_of, marks_from}
+use Rattle.grammar.specs.Marks.{Placed, mark_of, word_of, marks_from}
 
 -- bytes that belong to the mark before are passed over
 pub pass_over : (p k : ℕ) (bs : List ℕ) → marks_from p k bs ≡ marks_from (p + k) 0 (drop k bs)

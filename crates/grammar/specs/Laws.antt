@@ -10,7 +10,7 @@ use Rattle.ltl.specs.Laws.{subformulae}
 use Rattle.names.specs.Names.{has, proper}
 use Rattle.grammar.specs.Marks.{Mark, Placed, marks}
 use Rattle.grammar.specs.Marks.Mark.{name, finish}
-use Rattle.grammar.specs.Grammar.{Spells, IsRule, CanGoOn, Opens, Stuck}
+use Rattle.grammar.specs.Grammar.{Spells, CanGoOn, Opens, Stuck}
 use Rattle.grammar.specs.Descent.{reading}
 use Rattle.grammar.specs.Writing.{named, written}
 

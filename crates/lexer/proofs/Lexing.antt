@@ -1,12 +1,12 @@
 -- What the next mark of a text is. Assumes nothing.
-use Rattle.std.proofs.Common.{◌≡◌, ℕ, ◌+◌, ◌-◌, ◌<◌, ◌≤◌, Bool, true, false, cond, List, [], ◌∷◌, length, get_or, take, drop, Ok, Result, sym, refl, ap, ◌∙◌}
+use Rattle.std.proofs.Common.{◌≡◌, ℕ, ◌+◌, ◌-◌, ◌<◌, ◌≤◌, Bool, true, false, cond, List, [], length, get_or, take, drop, Ok, Result, sym, refl, ap, ◌∙◌}
 use Rattle.std.specs.List.{prefix_len}
 use Rattle.std.specs.Str.{bytes_eq}
 use Rattle.refusal.specs.Answers.{Said, and_then}
 use Rattle.names.specs.Names.{lower, wordly}
 use Rattle.grammar.specs.Marks.{Mark, Placed, mark_of, word_of, is_kind, marks_from}
 use Rattle.grammar.specs.Marks.Mark.{verum, falsum, name, foreign, finish}
-use Rattle.grammar.specs.Descent.{Lexed, seen, lex, unexpected}
+use Rattle.grammar.specs.Descent.{Lexed, lex, unexpected}
 use Rattle.grammar.proofs.Scan.{scan_mark, scan_word, scan_end}
 use Rattle.lexer.specs.Tokens.{mark_at}
 

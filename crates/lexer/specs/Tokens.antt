@@ -1,5 +1,5 @@
 -- Tokens as the marks that they are.
-use Rattle.std.specs.Prelude.{◌≡◌, ℕ, cond, List, [], length, drop, Ok, Result}
+use Rattle.std.specs.Prelude.{ℕ, cond, List, [], drop, Ok, Result}
 use Rattle.refusal.specs.Answers.{Said}
 use Rattle.grammar.specs.Marks.{Mark, Placed, mark_of, is_kind, marks_from}
 use Rattle.grammar.specs.Marks.Mark.{verum, falsum, name, negation, finally, globally, opening, conjunction, disjunction, closing, foreign, finish}

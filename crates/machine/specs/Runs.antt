@@ -1,5 +1,5 @@
 -- Runs of machines on endless words, and acceptance.
-use Rattle.std.specs.Prelude.{◌≡◌, ℕ, zero, suc, ◌<◌, ◌≤◌, Bool, true, false, List, [], ◌∷◌}
+use Rattle.std.specs.Prelude.{◌≡◌, ℕ, zero, suc, ◌<◌, ◌≤◌, Bool, true, false}
 use Rattle.ltl.specs.Words.{Word}
 use Rattle.machine.specs.Machines.{Course, Machine}
 

@@ -2,7 +2,7 @@
 use Rattle.std.proofs.Common.{◌≡◌, ℕ, zero, suc, ◌-◌, ◌<◌, List, Err, refl, ap, ◌∙◌, arith}
 use Rattle.refusal.specs.Answers.{Said, and_then}
 use Rattle.grammar.specs.Marks.{Placed}
-use Rattle.grammar.specs.Descent.{Held, Lexed, lex, too_deep_at, rule_from, descend}
+use Rattle.grammar.specs.Descent.{Held, lex, too_deep_at, rule_from, descend}
 
 module _ (names : List (List ℕ)) (stop : ℕ) (h : Held) (ms : List Placed) where
   pub no_level : (left : ℕ) → left ≡ 0 → descend left names stop h ms ≡ and_then (lex stop ms) too_deep_at

@@ -1,10 +1,10 @@
 -- One field of a sheet. Assumes nothing.
-use Rattle.std.proofs.Common.{◌≡◌, ℕ, ◌<◌, List, [], ◌∷◌, length, Some, sym, refl, ap, ◌∙◌, arith}
+use Rattle.std.proofs.Common.{◌≡◌, ℕ, ◌<◌, List, [], ◌∷◌, length, Some, ap, ◌∙◌, arith}
 use Rattle.refusal.specs.Answers.{and_then}
 use Rattle.fields.specs.Pieces.{Part}
 use Rattle.fields.specs.Pieces.Part.{whole, cut}
-use Rattle.fields.specs.Walked.{Met, next}
-use Rattle.fields.specs.Walked.Met.{took, broke, ended}
+use Rattle.fields.specs.Walked.{next}
+use Rattle.fields.specs.Walked.Met.{took}
 use Rattle.sheet.specs.declared.order.Due.{Due}
 use Rattle.sheet.specs.Contents.{rounds_in}
 use Rattle.sheet.specs.Turns.{first_of}

@@ -1,5 +1,5 @@
 -- The turned machine: each pair waits for its visit sets one after another, and only the last one's meetings count.
-use Rattle.std.specs.Prelude.{ℕ, zero, suc, ◌+◌, ◌-◌, Bool, true, false, cond, ◌&&◌, List, set, replicate, ◌==◌, nat_lt, slice_index, slice_set}
+use Rattle.std.specs.Prelude.{ℕ, zero, suc, ◌+◌, ◌-◌, Bool, true, false, cond, ◌&&◌, List, replicate, ◌==◌, nat_lt, slice_index, slice_set}
 use Rattle.machine.specs.Machines.{Course, Pairs, Machine}
 use Rattle.turning.specs.declared.TurnedState.{TurnedState}
 

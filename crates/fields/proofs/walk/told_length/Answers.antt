@@ -1,4 +1,4 @@
-use Rattle.std.proofs.Common.{◌+◌, arith, rules}
+use Rattle.std.proofs.Common.{◌+◌, arith}
 use Rattle.fields.proofs.Stretch.{told_at}
 use Rattle.fields.proofs.walk.told_length.Goals as goal
 

@@ -1,6 +1,6 @@
 use Rattle.std.proofs.Common.{◌≡◌, length}
 use Rattle.fields.specs.Pieces.{parts}
-use Rattle.fields.specs.Walked.{bytes_of, remaining}
+use Rattle.fields.specs.Walked.{remaining}
 use Rattle.sheet.specs.declared.order.Due.TheVariants.{NameOrRule}
 use Rattle.sheet.specs.Layout.{orderly}
 use Rattle.sheet.proofs.reading.check_fields.Given as goal

@@ -1,5 +1,5 @@
-use Rattle.std.proofs.Common.{◌≡◌, ◌+◌, ◌-◌, ◌<◌, ◌≤◌, length, get_or, take, drop, sym, refl, ap, ◌∙◌, arith}
-use Rattle.fields.specs.Pieces.{told, parts_from}
+use Rattle.std.proofs.Common.{◌≡◌, ◌+◌, ◌-◌, ◌≤◌, length, get_or, take, drop, sym, refl, ap, ◌∙◌, arith}
+use Rattle.fields.specs.Pieces.{parts_from}
 use Rattle.fields.specs.Walked.{bytes_of, next}
 use Rattle.fields.specs.Walked.Met.{took}
 use Rattle.fields.proofs.Stretch.{parts_end, parts_cut, parts_whole}

@@ -4,7 +4,7 @@ use Rattle.refusal.proofs.Exits.{handed_on}
 use Rattle.ltl.proofs.Numbering.{numbering}
 use Rattle.names.specs.Listed.{spelled_names}
 use Rattle.rule.specs.Pools.{held}
-use Rattle.rule.specs.Rules.{nodes_in, names_in, Enumerates}
+use Rattle.rule.specs.Rules.{nodes_in, Enumerates}
 use Rattle.rule.proofs.Pooled.{pool_count}
 use Rattle.rule.proofs.Whole.{read_sound, by_grammar}
 use Rattle.rule.proofs.held.Rule.read.Goals as goal

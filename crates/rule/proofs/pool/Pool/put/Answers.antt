@@ -1,8 +1,6 @@
-use Rattle.std.proofs.Common.{◌≡◌, ◌+◌, ◌<◌, ◌≤◌, not, length, take, set, sym, ap, ◌∙◌, arith}
+use Rattle.std.proofs.Common.{◌≡◌, ◌+◌, not, take, set, sym, ap, ◌∙◌, arith}
 use Rattle.std.proofs.lemmas.List.Sums.{prefix_len-le-length}
-use Rattle.ltl.specs.Lists.{position}
 use Rattle.ltl.specs.Arena.{same_node}
-use Rattle.grammar.specs.Descent.{Held}
 use Rattle.rule.specs.Pools.{held}
 use Rattle.rule.proofs.Pooled.{pool_count, pool_push, put_over, put_new}
 use Rattle.rule.proofs.pool.Pool.put.Goals as goal
