@@ -1,5 +1,5 @@
 -- The letters that have a name, as constants. Assumes nothing.
-use Rattle.std.proofs.Common.{◌≡◌, ℕ, zero, suc, ◌+◌, ◌^◌, ◌<◌, ◌≤◌, Bool, false, List, [], ◌∷◌, get_or, sym, refl, ◌∙◌, arith, pow_mono}
+use Rattle.std.proofs.Common.{◌≡◌, ℕ, zero, suc, ◌+◌, ◌^◌, ◌<◌, ◌≤◌, false, List, [], ◌∷◌, get_or, sym, refl, ◌∙◌, arith, pow_mono}
 use Rattle.ltl.specs.Words.{bit}
 use Rattle.bits.specs.Gathered.{gathered}
 use Rattle.bits.proofs.Bits.{bit_none}

@@ -1,18 +1,14 @@
 -- A row of forecasts, one for each letter, made bit by bit. Assumes nothing.
-use Rattle.std.proofs.Common.{◌≡◌, ℕ, zero, suc, ◌+◌, ◌^◌, ◌<◌, ◌≤◌, Bool, true, false, cond, ◌≢◌, List, [], ◌∷◌, length, get_or, take, set, sym, refl, ap, ◌∙◌, subst, ap₂, add-one, arith, below_more}
-use Rattle.std.proofs.lemmas.List.{get_or-set_same, get_or-set_other, take_all}
+use Rattle.std.proofs.Common.{◌≡◌, ℕ, zero, suc, ◌+◌, ◌^◌, ◌<◌, ◌≤◌, Bool, true, false, cond, List, [], ◌∷◌, length, get_or, take, sym, refl, ap, ◌∙◌, add-one, arith}
+use Rattle.std.proofs.lemmas.List.{take_all}
 use Rattle.std.proofs.lemmas.Bool.{cond-true, cond-false}
 use Rattle.ltl.specs.declared.Node.{Node}
 use Rattle.ltl.specs.declared.Node.TheVariants.{True}
-use Rattle.ltl.specs.Words.{bit}
 use Rattle.ltl.specs.Arena.{temporal, temporals}
 use Rattle.ltl.proofs.Meanings.{Tidy}
 use Rattle.forecast.specs.Forecasts.{rank, renewed, values, gather, recast}
 use Rattle.forecast.proofs.Bits.{temporals_cons, gather_below}
 use Rattle.forecast.proofs.Values.{length_values}
-use Rattle.bits.proofs.Collected.{gathered_at}
-use Rattle.outlook.specs.declared.deciding.Deciding.TheVariants.{Renewed}
-use Rattle.outlook.specs.Letters.{letters_where, Added, Told}
 
 -- what the first k nodes gather, and one node more
 gather_more : (t : ℕ) (ns : List Node) (vs : List Bool) (k : ℕ) → length vs ≡ length ns → k < length ns

@@ -1,16 +1,15 @@
 -- Sets of letters as words: all of them, none of them, and those that a node gives. Assumes nothing.
-use Rattle.std.proofs.Common.{◌≡◌, ℕ, ◌+◌, ◌-◌, ◌*◌, ◌/◌, ◌^◌, ◌<◌, ◌≤◌, Bool, true, false, cond, not, ◌&&◌, ◌||◌, eqb, ltb, List, length, get_or, sym, refl, ap, ◌∙◌, subst, ap₂, inl, inr, add-mul, arith}
+use Rattle.std.proofs.Common.{◌≡◌, ℕ, ◌+◌, ◌-◌, ◌*◌, ◌/◌, ◌^◌, ◌<◌, ◌≤◌, Bool, true, false, not, ◌&&◌, eqb, ltb, sym, refl, ap, ◌∙◌, inl, inr, add-mul, arith}
 use lib.Bits.{bit_and}
 use Rattle.std.proofs.lemmas.Bool.{false≢true, both_ways, cases_Bool, eq-eqb, ne_eqb, lt-ltb, le-ltb}
 use Rattle.std.proofs.lemmas.Nat.{pow_pos, pow-add, div-mul-add}
 use Rattle.ltl.specs.Words.{bit}
 use Rattle.bits.specs.Gathered.{gathered}
 use Rattle.bits.proofs.Bits.{bit_none}
-use Rattle.bits.proofs.Collected.{gathered_same, gathered_past, gathered_and, gathered_not, gathered_zero, gathered_ones, gathered_at}
-use Rattle.forecast.specs.Bounded.{some, all}
+use Rattle.bits.proofs.Collected.{gathered_same, gathered_past, gathered_and, gathered_zero, gathered_ones, gathered_at}
+use Rattle.forecast.specs.Bounded.{some}
 use Rattle.forecast.proofs.Tests.{some_found, some_from, some_same, some_bounded}
 use Rattle.outlook.specs.Letters.{letters_where}
-use Rattle.outlook.specs.Pairs.{letters_over, others}
 
 -- the first m letters, by a shift
 pub every_right : (m : ℕ) → m ≤ 64 → (2 ^ 64 - 1) / 2 ^ (64 - m) ≡ letters_where (λ a. ltb a m)

@@ -1,7 +1,7 @@
 -- When a forecast is steady, from its letters. Assumes nothing.
-use Rattle.std.proofs.Common.{◌≡◌, ℕ, ◌+◌, ◌-◌, ◌^◌, ◌<◌, ◌≤◌, Bool, true, false, not, ◌&&◌, ◌||◌, eqb, ltb, List, length, sym, refl, ap, ◌∙◌, subst, ap₂, inl, inr, arith}
+use Rattle.std.proofs.Common.{◌≡◌, ℕ, ◌+◌, ◌-◌, ◌^◌, ◌<◌, ◌≤◌, Bool, true, false, not, ◌&&◌, ◌||◌, eqb, ltb, List, length, sym, refl, ap, ◌∙◌, ap₂, inl, inr, arith}
 use lib.Bits.{bit_and}
-use Rattle.std.proofs.lemmas.Bool.{cases_Bool, eqb-true, eq-eqb, not-true, not-false, not_from_true, not_from_false, and_left, and_right, and_from, or_cases, or_from}
+use Rattle.std.proofs.lemmas.Bool.{cases_Bool, eqb-true, eq-eqb, not-true, not_from_true, not_from_false, and_left, and_right, and_from, or_cases, or_from}
 use Rattle.ltl.specs.declared.Node.{Node}
 use Rattle.bits.proofs.Collected.{gathered_same, gathered_and, gathered_not}
 use Rattle.forecast.specs.Bounded.{some}

@@ -1,5 +1,5 @@
 -- What the words of a forecast tell of its temporal nodes. Assumes nothing.
-use Rattle.std.proofs.Common.{◌≡◌, ℕ, ◌+◌, ◌-◌, ◌^◌, ◌<◌, ◌≤◌, Bool, true, false, cond, not, ◌&&◌, ◌||◌, eqb, ltb, List, length, get_or, sym, refl, ap, ◌∙◌, subst, ap₂, arith}
+use Rattle.std.proofs.Common.{◌≡◌, ℕ, ◌+◌, ◌-◌, ◌^◌, ◌<◌, ◌≤◌, Bool, true, false, cond, not, ◌&&◌, ◌||◌, eqb, ltb, List, length, get_or, sym, refl, ap, ◌∙◌, ap₂, arith}
 use lib.Bits.{bit_and, bit_or}
 use Rattle.std.proofs.lemmas.Bool.{and_right}
 use Rattle.ltl.specs.declared.Node.{Node}
@@ -7,10 +7,10 @@ use Rattle.ltl.specs.declared.Node.TheVariants.{True, False, Atom, NotAtom, And,
 use Rattle.ltl.specs.Words.{bit}
 use Rattle.ltl.specs.Arena.{temporal}
 use Rattle.ltl.proofs.Meanings.{Fits, Tidy}
-use Rattle.bits.proofs.Collected.{gathered_same, gathered_and, gathered_or, gathered_not, gathered_zero}
-use Rattle.forecast.specs.Bounded.{some, all}
+use Rattle.bits.proofs.Collected.{gathered_same, gathered_or, gathered_not, gathered_zero}
+use Rattle.forecast.specs.Bounded.{some}
 use Rattle.forecast.specs.Forecasts.{holds_at}
-use Rattle.forecast.specs.Steady.{on_f, on_g, within, each_f, other_f, each_g, other_g, breaks, allowed, never_holds, never_fails, visiting}
+use Rattle.forecast.specs.Steady.{on_f, on_g, within, each_f, other_f, each_g, other_g, allowed, never_holds, never_fails, visiting}
 use Rattle.forecast.proofs.Tests.{some_next, some_bounded, not_all}
 use Rattle.forecast.proofs.Values.{holds_temporal}
 use Rattle.outlook.specs.declared.deciding.Deciding.TheVariants.{Kept}

@@ -1,5 +1,5 @@
 -- The visit sets of a forecast, gathered node by node. Assumes nothing.
-use Rattle.std.proofs.Common.{◌≡◌, ℕ, ◌+◌, ◌^◌, ◌<◌, ◌≤◌, Bool, true, false, not, ◌≢◌, List, length, get_or, set, sym, refl, ap, ◌∙◌, subst, arith, below_more}
+use Rattle.std.proofs.Common.{◌≡◌, ℕ, ◌+◌, ◌^◌, ◌<◌, Bool, true, false, not, ◌≢◌, List, length, get_or, set, sym, ap, ◌∙◌, subst, arith, below_more}
 use Rattle.std.proofs.lemmas.List.{get_or-set_same, get_or-set_other}
 use Rattle.ltl.specs.declared.Node.{Node}
 use Rattle.ltl.specs.declared.Node.TheVariants.{True, Eventually}
@@ -12,8 +12,7 @@ use Rattle.forecast.proofs.Tests.{count_more, count_nothing, nth_before, nth_her
 use Rattle.forecast.proofs.Bits.{count_temporals}
 use Rattle.forecast.proofs.Members.{each_f_is, part_f}
 use Rattle.outlook.specs.declared.pair.VisitSets.{VisitSets}
-use Rattle.outlook.specs.declared.deciding.Deciding.TheVariants.{Kept}
-use Rattle.outlook.specs.Letters.{letters_where, Told}
+use Rattle.outlook.specs.Letters.{letters_where}
 use Rattle.outlook.specs.Pairs.{Visits}
 use Rattle.outlook.proofs.Rows.{rank_below}
 

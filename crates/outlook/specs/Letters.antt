@@ -1,5 +1,5 @@
 -- Letters as the bits of one word: bit a says something of letter a, for all 64 letters at once.
-use Rattle.std.specs.Prelude.{◌≡◌, ℕ, ◌+◌, ◌-◌, ◌^◌, ◌<◌, Bool, false, cond, List, length, bit_and, bit_or, slice_index, slice_index_or}
+use Rattle.std.specs.Prelude.{◌≡◌, ℕ, ◌+◌, ◌-◌, ◌^◌, ◌<◌, Bool, false, cond, List, bit_and, bit_or, slice_index, slice_index_or}
 use Rattle.ltl.specs.declared.Node.{Node}
 use Rattle.ltl.specs.declared.Node.TheVariants.{True, False, Atom, NotAtom, And, Or, Eventually, Always}
 use Rattle.ltl.specs.Words.{bit}

@@ -1,11 +1,11 @@
 -- The pair of a forecast, by letters.
-use Rattle.std.specs.Prelude.{◌≡◌, ℕ, ◌-◌, ◌^◌, ◌<◌, Bool, true, false, cond, not, ◌&&◌, ◌||◌, ltb, List, length, Some, None, Option, ◌==◌, bit_and, nat_eq, nat_lt, slice_index, slice_index_or}
+use Rattle.std.specs.Prelude.{◌≡◌, ℕ, ◌-◌, ◌^◌, ◌<◌, Bool, true, not, ◌&&◌, ◌||◌, ltb, List, length, ◌==◌, bit_and, nat_eq, nat_lt, slice_index, slice_index_or}
 use Rattle.ltl.specs.declared.Node.{Node}
 use Rattle.ltl.specs.declared.Node.TheVariants.{True, False, Atom, NotAtom, And, Or, Eventually, Always}
 use Rattle.ltl.specs.Arena.{first_of}
 use Rattle.forecast.specs.Bounded.{count, nth, some}
 use Rattle.forecast.specs.Forecasts.{holds_at}
-use Rattle.forecast.specs.Steady.{on_f, on_g, each_g, other_f, breaks, allowed, steady, visiting, visits_of, part_of}
+use Rattle.forecast.specs.Steady.{on_f, on_g, each_g, other_f, breaks, allowed, steady, visiting}
 use Rattle.outlook.specs.declared.pair.Pair.{Pair}
 use Rattle.outlook.specs.declared.pair.VisitSets.{VisitSets}
 use Rattle.outlook.specs.declared.odds.Odds.{Odds}

@@ -1,15 +1,14 @@
 -- The pairs that are looked up are those of the rule. Assumes nothing.
-use Rattle.std.proofs.Common.{◌≡◌, ℕ, ◌%◌, ◌<◌, ◌≤◌, Bool, true, false, cond, not, ◌&&◌, ◌||◌, ltb, List, length, get_or, sym, refl, ap, ◌∙◌, subst, ap₂, arith, length-take}
+use Rattle.std.proofs.Common.{◌≡◌, ℕ, ◌%◌, ◌<◌, ◌≤◌, true, not, ◌&&◌, ◌||◌, ltb, List, length, get_or, sym, ap, ◌∙◌, ap₂, arith, length-take}
 use Rattle.std.proofs.lemmas.Bool.{lt-ltb, cond-true}
 use Rattle.ltl.specs.declared.Node.{Node}
 use Rattle.ltl.specs.Words.{bit}
 use Rattle.bits.proofs.Collected.{gathered_at}
 use Rattle.rule.specs.declared.held.Rule.{Rule}
 use Rattle.rule.specs.Rules.{nodes_in, names_in}
-use Rattle.machine.specs.Machines.{Limits}
 use Rattle.forecast.specs.Forecasts.{holds_at}
 use Rattle.forecast.specs.Steady.{breaks}
-use Rattle.forecast.specs.Rules.{forecast_of, visit_count, visit_part, pair_count, machine_of}
+use Rattle.forecast.specs.Rules.{forecast_of, visit_count, visit_part, pair_count}
 use Rattle.forecast.specs.Laws.{Ruled}
 use Rattle.forecast.proofs.Limited.{keeps_limits}
 use Rattle.outlook.proofs.Ruled.{few_names}

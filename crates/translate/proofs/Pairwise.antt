@@ -1,8 +1,8 @@
 -- The list of pairs, one steady forecast after the other. Assumes nothing.
-use Rattle.std.proofs.Common.{◌≡◌, ℕ, ◌+◌, ◌<◌, Bool, true, false, ◌≢◌, List, length, get_or, set, sym, refl, ap, ◌∙◌, subst, arith, length-set, below_more}
+use Rattle.std.proofs.Common.{◌≡◌, ℕ, ◌+◌, ◌<◌, false, ◌≢◌, List, length, get_or, set, sym, ap, ◌∙◌, subst, arith, length-set, below_more}
 use Rattle.std.proofs.lemmas.List.{get_or-set_same, get_or-set_other}
 use Rattle.ltl.specs.declared.Node.{Node}
-use Rattle.forecast.specs.Bounded.{count, nth}
+use Rattle.forecast.specs.Bounded.{nth}
 use Rattle.forecast.specs.Steady.{steady}
 use Rattle.forecast.proofs.Tests.{count_nothing, nth_before, nth_here, count_here, count_same}
 use Rattle.outlook.specs.declared.pair.Pair.{Pair}

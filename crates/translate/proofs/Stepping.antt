@@ -1,5 +1,5 @@
 -- What the look-ups of a step come to. Assumes nothing.
-use Rattle.std.proofs.Common.{◌≡◌, ℕ, ◌+◌, ◌-◌, ◌^◌, ◌<◌, ◌≤◌, min, Bool, true, false, ◌&&◌, eqb, ltb, List, [], ◌∷◌, length, get_or, sym, refl, ap, ◌∙◌, subst, ap₂, inl, inr, arith, pow_mono}
+use Rattle.std.proofs.Common.{◌≡◌, ℕ, ◌+◌, ◌-◌, ◌^◌, ◌<◌, ◌≤◌, min, Bool, false, ◌&&◌, eqb, ltb, List, [], ◌∷◌, length, sym, ap, ◌∙◌, ap₂, inl, inr, arith, pow_mono}
 use Rattle.std.proofs.lemmas.Bool.{cases_lt, and_left, lt-ltb, le-ltb, eqb-true}
 use Rattle.ltl.specs.declared.Node.{Node}
 use Rattle.ltl.specs.Words.{bit}
@@ -7,14 +7,12 @@ use Rattle.ltl.specs.Arena.{temporals}
 use Rattle.bits.specs.Gathered.{gathered}
 use Rattle.bits.proofs.Collected.{gathered_same, gathered_past, gathered_at}
 use Rattle.rule.specs.Rules.{nodes_in, names_in}
-use Rattle.forecast.specs.Bounded.{some}
 use Rattle.forecast.specs.Forecasts.{holds_at, recast, possible}
-use Rattle.forecast.specs.Rules.{opening, carried, stepped}
+use Rattle.forecast.specs.Rules.{opening, carried}
 use Rattle.forecast.proofs.Tests.{some_found, some_none}
 use Rattle.forecast.proofs.Obliged.{recast_below}
 use Rattle.outlook.proofs.Ruled.{few_letters}
-use Rattle.translate.specs.declared.state.State.{State}
-use Rattle.translate.specs.declared.state.State.TheVariants.{Start, Obliged}
+use Rattle.translate.specs.declared.state.State.TheVariants.{Obliged}
 use Rattle.translate.specs.declared.held.RuleAcceptor.{RuleAcceptor}
 use Rattle.translate.specs.States.{set_of, member, member_set, rule_states}
 use Rattle.translate.specs.Meaning.{width, set_within, opens, leads}

@@ -4,8 +4,8 @@ use Rattle.ltl.specs.Words.{bit}
 use Rattle.ltl.specs.Arena.{temporals}
 use Rattle.bits.specs.Gathered.{gathered}
 use Rattle.rule.specs.Rules.{nodes_in, names_in}
-use Rattle.machine.specs.Machines.{Course, Pairs, Machine}
-use Rattle.forecast.specs.Rules.{course_of, pairs_of, machine_of}
+use Rattle.machine.specs.Machines.{Course, Pairs}
+use Rattle.forecast.specs.Rules.{course_of, pairs_of}
 use Rattle.translate.specs.declared.state.State.{State}
 use Rattle.translate.specs.declared.held.RuleAcceptor.{RuleAcceptor}
 use Rattle.translate.specs.States.{rule_states, member}

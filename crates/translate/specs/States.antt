@@ -1,6 +1,6 @@
 -- States as the code member them: an obligation in four words of 64 bits.
 use Rattle.std.specs.Prelude.{◌≡◌, ℕ, zero, suc, ◌+◌, ◌*◌, ◌/◌, ◌%◌, ◌<◌, Bool, true, false, List, [], ◌∷◌, slice_index, refl}
-use Rattle.std.proofs.Common.{sym, ap, ◌∙◌, subst, mod-eq_of_lt, arith}
+use Rattle.std.proofs.Common.{ap, ◌∙◌, mod-eq_of_lt, arith}
 use Rattle.ltl.specs.Words.{bit}
 use Rattle.bits.specs.Gathered.{gathered}
 use Rattle.bits.proofs.Collected.{gathered_bit}

@@ -1,4 +1,4 @@
-use Rattle.std.proofs.Common.{◌≡◌, ◌<◌, cond, not, length, get_or, sym, ap, ◌∙◌, ap₂, arith}
+use Rattle.std.proofs.Common.{◌<◌, cond, not, length, get_or, sym, ◌∙◌, ap₂, arith}
 use Rattle.ltl.proofs.Meanings.{sound_tidy}
 use Rattle.rule.specs.Rules.{nodes_in, names_in}
 use Rattle.bits.proofs.Collected.{gathered_same, gathered_zero}

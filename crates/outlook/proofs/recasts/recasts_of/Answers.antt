@@ -1,15 +1,14 @@
-use Rattle.std.proofs.Common.{◌≡◌, ℕ, ◌+◌, ◌^◌, ◌<◌, ◌≤◌, cond, length, get_or, sym, refl, ap, ◌∙◌, subst, ap₂, arith}
+use Rattle.std.proofs.Common.{◌≡◌, ℕ, ◌+◌, ◌^◌, ◌<◌, cond, length, get_or, sym, refl, ap, ◌∙◌, subst, ap₂, arith}
 use lib.ListN.{get_or-replicate}
 use Rattle.std.proofs.lemmas.Bool.{cond-true, cond-false}
 use Rattle.ltl.specs.declared.Node.TheVariants.{True}
-use Rattle.ltl.specs.Words.{bit}
-use Rattle.ltl.specs.Arena.{temporal, temporals}
+use Rattle.ltl.specs.Arena.{temporal}
 use Rattle.ltl.proofs.Meanings.{sound_tidy}
 use Rattle.rule.specs.Rules.{nodes_in, names_in}
 use Rattle.outlook.specs.declared.deciding.Deciding.TheVariants.{Renewed}
-use Rattle.forecast.specs.Forecasts.{rank, renewed, values}
+use Rattle.forecast.specs.Forecasts.{rank}
 use Rattle.outlook.proofs.Held.{rank_more, told_bit}
-use Rattle.outlook.proofs.Rows.{gathered_by, by_below, by_all, by_temporal, by_other, rank_below}
+use Rattle.outlook.proofs.Rows.{by_below, by_all, by_temporal, by_other, rank_below}
 use Rattle.outlook.proofs.recasts.recasts_of.Goals as goal
 use Rattle.outlook.proofs.recasts.recasts_of.Goals.{then-is_temporal, else-is_temporal}
 

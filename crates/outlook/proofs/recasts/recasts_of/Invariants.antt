@@ -1,4 +1,4 @@
-use Rattle.std.proofs.Common.{◌≡◌, ℕ, ◌<◌, ◌≤◌, length, get_or}
+use Rattle.std.proofs.Common.{◌≡◌, ℕ, ◌<◌, ◌≤◌, get_or}
 use Rattle.rule.specs.Rules.{nodes_in}
 use Rattle.forecast.specs.Forecasts.{rank}
 use Rattle.outlook.proofs.Rows.{gathered_by}

@@ -1,4 +1,4 @@
-use Rattle.std.proofs.Common.{◌≡◌, ℕ, ◌+◌, ◌≤◌, List, length, sym, refl, ap, ◌∙◌, subst, arith}
+use Rattle.std.proofs.Common.{ℕ, ◌+◌, ◌≤◌, List, length, sym, refl, subst, arith}
 use Rattle.rule.specs.Rules.{nodes_in, names_in}
 use Rattle.outlook.specs.declared.pair.Pair.{Pair}
 use Rattle.translate.specs.Tables.{Listed}

@@ -1,4 +1,4 @@
-use Rattle.std.proofs.Common.{◌≡◌, ℕ, ◌^◌, ◌<◌, List, [], length, get_or, ◌∙◌, arith, length-set}
+use Rattle.std.proofs.Common.{◌≡◌, ℕ, ◌^◌, ◌<◌, [], length, get_or, ◌∙◌, arith, length-set}
 use Rattle.rule.specs.Rules.{nodes_in, names_in}
 use Rattle.forecast.specs.Forecasts.{recast}
 use Rattle.translate.proofs.Filled.{filled_more}

@@ -1,4 +1,4 @@
-use Rattle.std.proofs.Common.{◌≡◌, ℕ, ◌-◌, length, ◌∙◌, arith, length-set}
+use Rattle.std.proofs.Common.{◌≡◌, ◌-◌, length, ◌∙◌, arith, length-set}
 use Rattle.rule.specs.Rules.{nodes_in}
 use Rattle.forecast.specs.Forecasts.{holds_at}
 use Rattle.outlook.specs.Letters.{letters_where}

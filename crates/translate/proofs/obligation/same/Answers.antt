@@ -1,4 +1,4 @@
-use Rattle.std.proofs.Common.{◌≡◌, sym, ap, ◌∙◌, ap₂}
+use Rattle.std.proofs.Common.{◌≡◌, sym, ◌∙◌, ap₂}
 use Rattle.std.proofs.lemmas.Slice.Eq.{slice_eq-Decides}
 use Rattle.translate.specs.declared.state.State.TheVariants.{Obliged}
 use Rattle.translate.proofs.obligation.same.Goals as goal

@@ -1,10 +1,10 @@
-use Rattle.std.proofs.Common.{◌≡◌, ◌≤◌, Result, Ok, Err, length, sym, ap, subst, ◌∙◌}
-use Rattle.refusal.specs.Answers.{Said, said, answer, refused}
+use Rattle.std.proofs.Common.{Err, length, sym, ap, subst, ◌∙◌}
+use Rattle.refusal.specs.Answers.{said, answer}
 use Rattle.refusal.proofs.Exits.{handed_on}
 use Rattle.ltl.specs.Words.{Satisfies}
 use Rattle.ltl.specs.Rounds.{spelling}
 use Rattle.rule.specs.Rules.{nodes_in, names_in, formula_in}
-use Rattle.machine.specs.Judging.{Judgement, Judged, Tells}
+use Rattle.machine.specs.Judging.{Judged, Tells}
 use Rattle.machine.proofs.Telling.{judged_tells}
 use Rattle.acceptor.specs.Said.{told, machine}
 use Rattle.turning.specs.Turns.{turned}

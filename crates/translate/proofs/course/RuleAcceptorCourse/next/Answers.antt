@@ -1,8 +1,7 @@
-use Rattle.std.proofs.Common.{◌≡◌, ◌%◌, ◌^◌, length, sym, ap, ◌∙◌, ap₂, mod-lt, mod-eq_of_lt}
+use Rattle.std.proofs.Common.{◌%◌, length, sym, ap, ◌∙◌, ap₂, mod-lt, mod-eq_of_lt}
 use Rattle.std.proofs.lemmas.Nat.{pow_pos}
 use Rattle.rule.specs.Rules.{nodes_in, names_in}
 use Rattle.forecast.specs.Rules.{stepped}
-use Rattle.translate.specs.declared.state.State.{State}
 use Rattle.translate.specs.States.{rule_states}
 use Rattle.translate.proofs.course.RuleAcceptorCourse.next.Goals as goal
 

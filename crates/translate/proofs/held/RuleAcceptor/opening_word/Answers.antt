@@ -1,5 +1,4 @@
-use Rattle.std.proofs.Common.{◌≡◌, ◌+◌, ◌^◌, ◌<◌, cond, sym, ap, ◌∙◌, subst, ap₂, arith}
-use Rattle.bits.specs.Gathered.{gathered}
+use Rattle.std.proofs.Common.{◌+◌, ◌^◌, ◌<◌, cond, sym, ◌∙◌, subst, ap₂, arith}
 use Rattle.bits.proofs.Collected.{gathered_none, gathered_more, gathered_below}
 use Rattle.translate.specs.Meaning.{opens}
 use Rattle.translate.proofs.held.RuleAcceptor.opening_word.Goals as goal

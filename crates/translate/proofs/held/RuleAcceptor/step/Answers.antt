@@ -1,4 +1,4 @@
-use Rattle.std.proofs.Common.{◌≡◌, length, sym, ap, ◌∙◌}
+use Rattle.std.proofs.Common.{length, sym, ap, ◌∙◌}
 use Rattle.rule.specs.Rules.{nodes_in, names_in}
 use Rattle.forecast.specs.Rules.{stepped}
 use Rattle.translate.specs.declared.state.State.{State}
