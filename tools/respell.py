@@ -116,6 +116,8 @@ def main(argv):
         for old, new in sorted(names.items()):
             print(old, new)
         return
+    if argv:
+        sys.exit(__doc__)
     for path in files():
         text = read(path)
         other = turn(text, names, is_answer(path))

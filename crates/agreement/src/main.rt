@@ -1,5 +1,5 @@
-// Rounds judged in every way there is: straight from rule and round, and by the rule's automaton. Standard input has a table of
-// rules and rounds, the stored output what an independent model makes of them.
+// Rounds judged in every way there is: straight from rule and round, by the rule's automaton, and by that automaton turned. Standard
+// input has a table of rules and rounds, the stored output what an independent model makes of them.
 #![tactic(auto)]
 
 use acceptor::{Acceptor, Judgement};
@@ -9,7 +9,8 @@ use names::Names;
 use refusal::Refusal;
 use rule::Rule;
 use translate::{RuleAcceptor, State};
-use verdicts::judge_bare;
+use turning::TurnedState;
+use verdicts::{judge_bare, judge_turned};
 
 const TRAIL: usize = 256;
 
@@ -98,6 +99,38 @@ fn letters_of(rt: &HostRuntime, hex: &str) -> anyhow::Result<Vec<u8>> {
     Ok(letters)
 }
 
+fn print_bare(
+    rt: &HostRuntime,
+    acceptor: &RuleAcceptor,
+    lead: &[u8],
+    cycle: &[u8],
+) -> anyhow::Result<()> {
+    let mut trail = vec![in rt.alloc(); State::Start; TRAIL]?;
+    print_judged(
+        rt,
+        "bare",
+        judge_bare(acceptor, lead, cycle, trail.as_mut_slice()),
+    )
+}
+
+fn print_turned(
+    rt: &HostRuntime,
+    acceptor: &RuleAcceptor,
+    lead: &[u8],
+    cycle: &[u8],
+) -> anyhow::Result<()> {
+    let unused = TurnedState {
+        inner: State::Start,
+        turns: [0; 16],
+    };
+    let mut trail = vec![in rt.alloc(); unused; TRAIL]?;
+    print_judged(
+        rt,
+        "turned",
+        judge_turned(acceptor, lead, cycle, trail.as_mut_slice()),
+    )
+}
+
 // LEAD-IN:CYCLE, judged by the rule above it
 fn check_round(rt: &HostRuntime, rule: &Rule, line: &str) -> anyhow::Result<()> {
     let (lead, cycle) = line.split_once(':').context("a round wants lead-in:cycle")?;
@@ -109,14 +142,8 @@ fn check_round(rt: &HostRuntime, rule: &Rule, line: &str) -> anyhow::Result<()> 
         satisfies(rule, lead.as_slice(), cycle.as_slice(), row.as_mut_slice()),
     )?;
     let acceptor = RuleAcceptor::new(rule);
-    let mut trail = vec![in rt.alloc(); State::Start; TRAIL]?;
-    let judged = judge_bare(
-        &acceptor,
-        lead.as_slice(),
-        cycle.as_slice(),
-        trail.as_mut_slice(),
-    );
-    print_judged(rt, "bare", judged)?;
+    print_bare(rt, &acceptor, lead.as_slice(), cycle.as_slice())?;
+    print_turned(rt, &acceptor, lead.as_slice(), cycle.as_slice())?;
     Ok(println!(rt; "")?)
 }
 

@@ -3,8 +3,7 @@ use Rattle.std.specs.Prelude.{ℕ, ◌^◌, Bool, false, not, ◌&&◌, List, le
 use Rattle.ltl.specs.declared.Node.{Node}
 use Rattle.ltl.specs.declared.Node.TheVariants.{True, False, Atom, NotAtom, And, Or, Eventually, Always}
 use Rattle.ltl.specs.Words.{bit}
-use Rattle.ltl.specs.Arena.{first_of}
-use Rattle.forecast.specs.Bounded.{some, all, count, nth}
+use Rattle.forecast.specs.Bounded.{some, all}
 use Rattle.forecast.specs.Forecasts.{rank, holds_at}
 
 -- whether node k is an F, or a G, and its part passes a test
@@ -67,10 +66,3 @@ module _ (n : ℕ) (ns : List Node) (I : ℕ) where
   -- an F within I gives a visit set, unless every letter meets it
   abbrev pub visiting : ℕ → Bool
   visiting k = each_f (λ q. not (all (2 ^ n) (λ a. holds_at ns a I q))) k
-
-  -- how many visit sets there are, and the part of the F that gives visit set j
-  abbrev pub visits_of : ℕ
-  visits_of = count (length ns) visiting
-
-  abbrev pub part_of : ℕ → ℕ
-  part_of j = first_of (slice_index_or ns (nth (length ns) visiting j) True)

@@ -1,5 +1,5 @@
 // The pair of a steady forecast, and the letters at which the rule holds.
-ghost use Rattle.std.specs.Prelude.{◌≡◌, ◌+◌, ◌-◌, ◌^◌, ◌<◌, ◌≤◌, true, false, not, length, set, if◌then◌else◌, MatchOption, slice_index, slice_set};
+ghost use Rattle.std.specs.Prelude.{◌≡◌, ◌+◌, ◌-◌, ◌^◌, ◌<◌, ◌≤◌, true, false, not, length, if◌then◌else◌, MatchOption, slice_index, slice_set};
 ghost use Rattle.rule.specs.Rules.{names_in, nodes_in};
 ghost use Rattle.forecast.specs.Steady.{steady};
 ghost use Rattle.outlook.specs.declared.deciding.Deciding.TheVariants.{Kept};

@@ -1,4 +1,4 @@
--- States as the code member them: an obligation in four words of 64 bits.
+-- States as the code holds them: an obligation in four words of 64 bits.
 use Rattle.std.specs.Prelude.{◌≡◌, ℕ, zero, suc, ◌+◌, ◌*◌, ◌/◌, ◌%◌, ◌<◌, Bool, true, false, List, [], ◌∷◌, slice_index, refl}
 use Rattle.std.proofs.Common.{ap, ◌∙◌, mod-eq_of_lt, arith}
 use Rattle.ltl.specs.Words.{bit}
