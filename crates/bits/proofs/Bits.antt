@@ -1,7 +1,11 @@
 -- The bits of a word, and what putting one more in changes. Assumes nothing.
 use Rattle.std.proofs.Common.{◌≡◌, ℕ, ◌+◌, ◌-◌, ◌*◌, ◌/◌, ◌%◌, ◌^◌, ◌<◌, Bool, true, false, cond, eqb, ap, ◌∙◌, arith}
-use native.Mathlib.Nat.{div-eq_of_lt, add-mul-div_right, add-mul-mod_self_right}
-use Rattle.std.proofs.lemmas.Nat.{pow_pos, pow-add}
+use native.Mathlib.Nat.{div-eq_of_lt, add-mul-div_right, add-mul-mod_self_right, mod-eq_of_lt}
+use Rattle.std.proofs.Math.Nat.{zero-mul}
+use Rattle.std.specs.Int.{bit_at}
+use Rattle.std.specs.Int.Bits.{bit_or}
+use Rattle.std.proofs.lemmas.Nat.{pow_pos, pow-add, or_disjoint, pow_below}
+use Rattle.std.proofs.lemmas.Nat.Bits.{and_pow}
 use Rattle.ltl.specs.Words.{bit}
 
 -- a word below 2 ^ k has no bit k
@@ -28,3 +32,11 @@ bit_kept m k word false h = ap (bit m) (omega arith)
 pub put_below : (k word : ℕ) (b : Bool) → word < 2 ^ k → word + cond b (2 ^ k) 0 < 2 ^ (k + 1)
 put_below k word true h = omega (arith, pow-add 2 k 1)
 put_below k word false h = omega (arith, pow-add 2 k 1)
+
+-- where a word has only bits below, putting one in adds it, in a word of any width
+pub or_put : (k word width : ℕ) → k < width → word < 2 ^ k → bit_or word (1 * 2 ^ k % 2 ^ width) ≡ word + 2 ^ k
+or_put k word width fits h =
+    let one : 1 * 2 ^ k ≡ 2 ^ k = omega arith in
+    let low : 1 * 2 ^ k % 2 ^ width ≡ 2 ^ k = ap (λ v. v % 2 ^ width) one ∙ mod-eq_of_lt (pow_below k width fits) in
+    let none : bit_at word k ≡ 0 = ap (λ q. q % 2) (div-eq_of_lt h) in
+    ap (bit_or word) low ∙ or_disjoint word (2 ^ k) (and_pow word k ∙ ap (λ b. b * 2 ^ k) none ∙ zero-mul (2 ^ k))

@@ -1,10 +1,14 @@
 -- Letters and the names that they speak of. Assumes nothing.
-use Rattle.std.proofs.Common.{◌≡◌, ℕ, ◌+◌, ◌/◌, ◌^◌, ◌<◌, ◌≤◌, Bool, true, false, cond, eqb, List, [], ◌∷◌, ◌++◌, length, sym, refl, ap, inl, inr, arith, pow_mono}
-use Rattle.std.specs.List.{prefix_len}
+use Rattle.std.proofs.Common.{◌≡◌, ℕ, ◌+◌, ◌/◌, ◌^◌, ◌<◌, ◌≤◌, Bool, true, false, not, cond, eqb, nat_lt, List, ◌++◌, length, length-append, Ok, Some, None, sym, refl, ap, ◌∙◌, inl, inr, arith, pow_mono}
+use Rattle.std.specs.List.{prefix_len, position_from, position_or_len}
+use Rattle.std.proofs.lemmas.List.Recursion.{is_position_or_len}
+use Rattle.std.proofs.lemmas.Iterator.Adapters.{position_from-zero}
 use Rattle.std.proofs.lemmas.Bool.{lt-ltb, cases_lt}
 use Rattle.std.proofs.lemmas.Nat.{pow_pos, le-div, div_below}
-use Rattle.std.proofs.lemmas.Bool.Decides.{Decides-eqb, Decides-ltb, Decides-like, same_from_decides}
-use Rattle.round.specs.Letters.{within}
+use Rattle.std.proofs.lemmas.Bool.Decides.{Decides-eqb, Decides-ltb, Decides-like, same_from_decides, nat_tests}
+use Rattle.refusal.specs.declared.Layer.TheVariants.{Round}
+use Rattle.refusal.specs.Answers.{refused}
+use Rattle.round.specs.Letters.{within, sound}
 
 -- a byte has no bit from 8 on
 pub byte_within : (n letter : ℕ) → 8 ≤ n → letter < 256 → true ≡ within n letter
@@ -21,22 +25,20 @@ shifted_within n letter =
     gone : letter < 2 ^ n → letter / 2 ^ n ≡ 0
     gone l = omega (arith, div_below letter (2 ^ n) 1 (pow_pos n) (omega arith))
 
--- a search that ends within the first list does not see the second
-pub leading_first : {X : Type 0} (p : X → Bool) (xs ys : List X) → prefix_len p xs < length xs → prefix_len p xs ≡ prefix_len p (xs ++ ys)
-leading_first p [] ys h = let z : ⊥ = omega arith in absurd z
-leading_first p (x ∷ xs) ys h = go (p x) (leading_first p xs ys) h
+-- a search for the first that fails ends where the longest passing front does
+pub found_behind : {X : Type 0} (p : X → Bool) (xs : List X)
+    → cond (nat_lt (prefix_len p xs) (length xs)) (Some (prefix_len p xs)) None ≡ position_from (λ x. not (p x)) 0 xs
+found_behind p xs =
+    let same : prefix_len p xs ≡ position_or_len (λ x. not (p x)) xs = is_position_or_len (prefix_len p) (λ x. not (p x)) refl (λ x ys. turned (p x) (1 + prefix_len p ys)) xs in
+    ap (λ i. cond (nat_lt i (length xs)) (Some i) None) same ∙ position_from-zero (λ x. not (p x)) xs
   where
-    go : (b : Bool) → (prefix_len p xs < length xs → prefix_len p xs ≡ prefix_len p (xs ++ ys))
-        → cond b (1 + prefix_len p xs) 0 < length (x ∷ xs) → cond b (1 + prefix_len p xs) 0 ≡ cond b (1 + prefix_len p (xs ++ ys)) 0
-    go true rest l = ap (λ n. 1 + n) (rest (omega arith))
-    go false rest l = refl
+    turned : (b : Bool) (n : ℕ) → cond b n 0 ≡ cond (not b) 0 n
+    turned true n = refl
+    turned false n = refl
 
--- where all of the first list passes, the search goes on in the second
-pub leading_second : {X : Type 0} (p : X → Bool) (xs ys : List X) → length xs ≤ prefix_len p xs → length xs + prefix_len p ys ≡ prefix_len p (xs ++ ys)
-leading_second p [] ys h = omega arith
-leading_second p (x ∷ xs) ys h = go (p x) (leading_second p xs ys) h
-  where
-    go : (b : Bool) → (length xs ≤ prefix_len p xs → length xs + prefix_len p ys ≡ prefix_len p (xs ++ ys))
-        → length (x ∷ xs) ≤ cond b (1 + prefix_len p xs) 0 → length (x ∷ xs) + prefix_len p ys ≡ cond b (1 + prefix_len p (xs ++ ys)) 0
-    go true rest l = omega (arith, rest (omega arith))
-    go false rest l = let z : ⊥ = omega arith in absurd z
+module _ (n : ℕ) (lead cycle : List ℕ) (few : length lead + length cycle ≤ 1024) (some : 0 < length cycle) where
+  pub refused_beyond : (i : ℕ) → Some i ≡ position_from (λ x. not (within n x)) 0 (lead ++ cycle) → refused 12 Round i ≡ sound n lead cycle
+  refused_beyond i e = let f = found_behind (within n) (lead ++ cycle) in let l = length-append lead cycle in grind (arith, nat_tests)
+
+  pub granted_within : None ≡ position_from (λ x. not (within n x)) 0 (lead ++ cycle) → Ok tt ≡ sound n lead cycle
+  granted_within e = let f = found_behind (within n) (lead ++ cycle) in let l = length-append lead cycle in grind (arith, nat_tests)

@@ -1,12 +1,19 @@
 // Rounds: a lead-in once, then a cycle for ever.
 #![tactic(auto)]
 
-ghost use Rattle.std.specs.Prelude.{◌≡◌};
-ghost use Rattle.std.specs.List.{prefix_len};
+ghost use Rattle.std.specs.Prelude.{◌≡◌, ◌++◌, not};
+ghost use Rattle.std.specs.List.{position_from};
 ghost use Rattle.refusal.specs.Answers.{answer};
-ghost use Rattle.round.specs.Letters.{within, place_beyond, sound};
+ghost use Rattle.round.specs.Letters.{within, sound};
 
 use refusal::{Cause, Layer, Refusal};
+
+// What may be a round: a lead-in and a cycle of any letters.
+#[derive(Clone, Copy, Debug)]
+pub struct Round<'a> {
+    pub lead: &'a [u8],
+    pub cycle: &'a [u8],
+}
 
 // Whether a letter speaks of the first n names alone. A byte has no bit from 8 on, and cannot be shifted so far.
 fn is_within(n: usize, letter: u8) -> bool
@@ -18,43 +25,28 @@ fn is_within(n: usize, letter: u8) -> bool
     letter >> n == 0
 }
 
-// The place of the first letter with a bit beyond the names, or how many letters there are where none has.
-fn first_beyond(n: usize, letters: &[u8]) -> usize
-    ensures { result ≡ prefix_len (within n) letters.now }
-{
-    for i in 0..letters.len() {
-        if !is_within(n, letters[i]) {
-            return i;
+impl Round<'_> {
+    // The place of the first letter with a bit beyond the names, where there is one.
+    fn first_beyond(&self, n: usize) -> Option<usize>
+        ensures { result ≡ position_from (λ l. not (within n l)) 0 (self.now.lead.now ++ self.now.cycle.now) }
+    {
+        let mut letters = self.lead.iter().chain(self.cycle.iter());
+        letters.position(|letter| !is_within(n, *letter))
+    }
+
+    // Whether it is a round over n names: at most 1,024 letters, a cycle of one or more, no bit beyond the names.
+    pub fn check(&self, n: usize) -> Result<(), Refusal>
+        ensures { answer (λ u. u) result ≡ sound n self.now.lead.now self.now.cycle.now }
+    {
+        if self.lead.len() + self.cycle.len() > 1024 {
+            return Err(Refusal::new(Cause::LongRound, Layer::Round, 0));
+        }
+        if self.cycle.is_empty() {
+            return Err(Refusal::new(Cause::EmptyCycle, Layer::Round, 0));
+        }
+        match self.first_beyond(n) {
+            Some(place) => Err(Refusal::new(Cause::ForeignBit, Layer::Round, place)),
+            None => Ok(()),
         }
     }
-    letters.len()
-}
-
-// The same of a whole round, by places from its start.
-fn first_beyond_in_round(n: usize, lead: &[u8], cycle: &[u8]) -> usize
-    ensures { result ≡ place_beyond n lead.now cycle.now }
-{
-    let place = first_beyond(n, lead);
-    if place < lead.len() {
-        return place;
-    }
-    lead.len() + first_beyond(n, cycle)
-}
-
-// Whether a lead-in and a cycle make a round over n names: at most 1,024 letters, a cycle of one or more, no bit beyond the names.
-pub fn check(n: usize, lead: &[u8], cycle: &[u8]) -> Result<(), Refusal>
-    ensures { answer (λ u. u) result ≡ sound n lead.now cycle.now }
-{
-    let letters = lead.len() + cycle.len();
-    if letters > 1024 {
-        return Err(Refusal::new(Cause::LongRound, Layer::Round, 0));
-    }
-    if cycle.len() == 0 {
-        return Err(Refusal::new(Cause::EmptyCycle, Layer::Round, 0));
-    }
-    let place = first_beyond_in_round(n, lead, cycle);
-    if place < letters {
-        return Err(Refusal::new(Cause::ForeignBit, Layer::Round, place));
-    }
-    Ok(())
 }

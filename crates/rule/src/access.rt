@@ -31,6 +31,15 @@ impl Rule {
         temporals_among(&self.nodes, self.count)
     }
 
+    // The distinct subformulae, each behind its parts; the last is the rule itself.
+    pub fn nodes(&self) -> &[Node]
+        ensures value { result.now ≡ nodes_in self.now }
+        ensures some { 0 < length result.now }
+        ensures few { length result.now ≤ 32 }
+    {
+        &self.nodes[..self.count]
+    }
+
     // How many distinct subformulae there are.
     pub fn count(&self) -> usize
         ensures value { result ≡ length (nodes_in self.now) }
