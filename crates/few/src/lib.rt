@@ -1,7 +1,7 @@
 // Lists of a few items, held in fixed places, so that nothing fails for want of memory.
 #![tactic(auto)]
 
-ghost use Rattle.std.specs.Prelude.{◌≡◌, ◌<◌, ◌≤◌, ◌↔◌, [], ◌∷◌, ◌++◌, length, IsOk, OnOk, OnErr};
+ghost use Rattle.std.specs.Prelude.{◌≡◌, ◌+◌, ◌<◌, ◌≤◌, ◌↔◌, [], ◌∷◌, ◌++◌, length, IsOk, OnOk, OnErr};
 ghost use Rattle.few.specs.Items.{items};
 
 mod held;
@@ -42,5 +42,28 @@ impl<T: Copy, const N: usize> Few<T, N> {
         self.places[self.count] = item;
         self.count += 1;
         Ok(())
+    }
+
+    // More items behind the others; where there are not places for all, nothing changes.
+    pub fn extend(&mut self, more: &[T]) -> Result<(), Full>
+        ensures room { IsOk result ↔ (length (items self.old) + length more.now ≤ N) }
+        ensures ok { OnOk result (items self.new ≡ items self.old ++ more.now) }
+        ensures err { OnErr result (self.new ≡ self.old) }
+    {
+        if N - self.count < more.len() {
+            return Err(Full);
+        }
+        let end = self.count + more.len();
+        let places = &mut self.places[..];
+        places[self.count..end].copy_from_slice(more);
+        self.count = end;
+        Ok(())
+    }
+
+    pub fn len(&self) -> usize
+        ensures value { result ≡ length (items self.now) }
+        ensures few { result ≤ N }
+    {
+        self.as_slice().len()
     }
 }

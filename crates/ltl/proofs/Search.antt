@@ -1,6 +1,8 @@
 -- A search from the front of a list, turn by turn. Assumes nothing.
-use Rattle.std.proofs.Common.{◌≡◌, ℕ, ◌+◌, ◌<◌, ◌≤◌, Bool, true, false, List, length, get_or, drop, arith}
-use Rattle.std.specs.List.{prefix_len}
+use Rattle.std.proofs.Common.{◌≡◌, ℕ, ◌+◌, ◌<◌, ◌≤◌, Bool, true, false, not, cond, nat_lt, List, length, get_or, drop, Some, None, refl, ap, ◌∙◌, arith}
+use Rattle.std.specs.List.{prefix_len, position_from, position_or_len}
+use Rattle.std.proofs.lemmas.List.Recursion.{is_position_or_len}
+use Rattle.std.proofs.lemmas.Iterator.Adapters.{position_from-zero}
 use Rattle.std.proofs.lemmas.List.Sums.{prefix_len-drop_yes, prefix_len-drop_no, prefix_len-drop_all}
 
 -- the first i elements pass the test p, so what is left tells how many do
@@ -16,3 +18,14 @@ module _ {X : Type 0} (p : X → Bool) (xs : List X) (i : ℕ) (sofar : Passed p
 
   pub passed_all : length xs ≤ i → i ≡ prefix_len p xs
   passed_all h = omega (arith, prefix_len-drop_all p xs i h)
+
+-- the first that passes p stands where the longest front that passes q ends, q being the opposite of p
+pub found_behind : {X : Type 0} (p q : X → Bool) → ((x : X) → q x ≡ not (p x)) → (xs : List X)
+    → cond (nat_lt (prefix_len q xs) (length xs)) (Some (prefix_len q xs)) None ≡ position_from p 0 xs
+found_behind p q apart xs =
+    let same : prefix_len q xs ≡ position_or_len p xs = is_position_or_len (prefix_len q) p refl (λ x ys. turned (q x) (p x) (1 + prefix_len q ys) (apart x)) xs in
+    ap (λ i. cond (nat_lt i (length xs)) (Some i) None) same ∙ position_from-zero p xs
+  where
+    turned : (a b : Bool) (n : ℕ) → a ≡ not b → cond a n 0 ≡ cond b 0 n
+    turned a true n e = ap (λ c. cond c n 0) e
+    turned a false n e = ap (λ c. cond c n 0) e

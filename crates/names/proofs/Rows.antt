@@ -1,42 +1,31 @@
--- Names in their rows. Assumes nothing.
-use Rattle.std.proofs.Common.{◌≡◌, ℕ, ◌+◌, ◌-◌, ◌<◌, ◌≤◌, Bool, not, List, [], ◌∷◌, ◌++◌, map, length, get_or, take, drop, set, sym, refl, ap, ◌∙◌, arith, length-append, length-drop, length-take}
-use lib.ListN.{length-map}
-use Rattle.std.proofs.lemmas.List.{get_or-map, get_or-take, take_at, take_more_set, map_push}
+-- Names in their places. Assumes nothing.
+use Rattle.std.proofs.Common.{◌≡◌, ℕ, ◌+◌, Bool, true, false, cond, List, [], ◌∷◌, ◌++◌, map, Some, None, not, is_some, refl, sym, ap, ◌∙◌}
+use Rattle.std.specs.List.{position_from}
 use Rattle.std.specs.Str.{bytes_eq}
+use Rattle.ltl.specs.Lists.{position}
+use Rattle.ltl.proofs.Search.{found_behind}
+use Rattle.std.proofs.lemmas.List.{map_push}
+use Rattle.few.specs.declared.held.Few.{Few}
+use Rattle.few.specs.Items.{items}
 use Rattle.names.specs.declared.name.Name.{Name}
-use Rattle.names.specs.declared.list.Names.{Names}
 use Rattle.names.specs.Spelled.{spelled, spelled_in}
-use Rattle.names.specs.Listed.{spelled_names}
+use Rattle.names.specs.Names.{has}
 
--- there are as many names as the count says
-pub names_count : (x : Names) → length (spelled_names x) ≡ x.count
-names_count x =
-    let few = x.few in
-    let size = x.size in
-    length-map (take x.count x.list) spelled ∙ length-take x.count x.list ∙ omega arith
+-- where a list is made item by item, the place in it is the place in what it is made of
+pub position_mapped : {X Y : Type 0} (f : X → Y) (p : Y → Bool) (i : ℕ) (xs : List X) → position_from (λ x. p (f x)) i xs ≡ position_from p i (map f xs)
+position_mapped f p i [] = refl
+position_mapped f p i (x ∷ xs) = ap (cond (p (f x)) (Some i)) (position_mapped f p (i + 1) xs)
 
--- name i of the list
-pub name_at : (x : Names) (i : ℕ) (d : Name) (e : List ℕ) → i < x.count → get_or (spelled_names x) i e ≡ spelled (get_or x.list i d)
-name_at x i d e h =
-    let few = x.few in
-    let size = x.size in
-    let long : i < length (take x.count x.list) = simp length-take (omega arith) in
-    get_or-map spelled (take x.count x.list) i d e long ∙ ap spelled (get_or-take x.count x.list i d h)
+-- a name is found exactly where the names have it
+pub found_has : (names : List (List ℕ)) (w : List ℕ) → is_some (position_from (bytes_eq w) 0 names) ≡ has names w
+found_has names w =
+    ap is_some (sym (found_behind (bytes_eq w) (λ y. not (bytes_eq w y)) (λ y. refl) names))
+    ∙ told (has names w) (position bytes_eq w names)
+  where
+    told : (b : Bool) (i : ℕ) → is_some (cond b (Some i) None) ≡ b
+    told true i = refl
+    told false i = refl
 
--- a word in front of what is left of a row of eight
-module _ (word front row : List ℕ) (copied : front ≡ word) (few : length word ≤ 8) (eight : length row ≡ 8) where
-  pub row_length : length (front ++ drop (length word - 0) row) ≡ 8
-  row_length = ap (λ w. length (w ++ drop (length word - 0) row)) copied ∙ simp (length-append, length-drop) (omega arith)
-
-  pub row_front : take (length word) (front ++ drop (length word - 0) row) ≡ word
-  row_front = ap (λ w. take (length word) (w ++ drop (length word - 0) row)) copied ∙ take_at word _ (length word) refl
-
--- one name more in the row
-pub names_push : (x : Names) (n : Name) → x.count < 6 → spelled_in (x.count + 1) (set x.list x.count n) ≡ spelled_names x ++ (spelled n ∷ [])
-names_push x n h =
-    let size = x.size in
-    ap (map spelled) (take_more_set x.list x.count n (omega arith)) ∙ map_push spelled (take x.count x.list) n
-
--- whether name i of the list is not the word, told by a comparison with its row
-pub name_unlike : (x : Names) (w : List ℕ) (i : ℕ) (d : Name) (b : Bool) → i < x.count → b ≡ bytes_eq w (spelled (get_or x.list i d)) → not (bytes_eq w (get_or (spelled_names x) i [])) ≡ not b
-name_unlike x w i d b h e = ap (λ n. not (bytes_eq w n)) (name_at x i d [] h) ∙ ap not (sym e)
+-- one name more
+pub names_push : {N : ℕ} (old new : Few Name N) (name : Name) (w : List ℕ) → items new ≡ items old ++ (name ∷ []) → spelled name ≡ w → spelled_in new ≡ spelled_in old ++ (w ∷ [])
+names_push old new name w e s = ap (map spelled) e ∙ map_push spelled (items old) name ∙ ap (λ n. spelled_in old ++ (n ∷ [])) s

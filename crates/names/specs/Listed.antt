@@ -4,4 +4,4 @@ use Rattle.names.specs.declared.list.Names.{Names}
 use Rattle.names.specs.Spelled.{spelled_in}
 
 abbrev pub spelled_names : Names → List (List ℕ)
-spelled_names x = spelled_in x.count x.list
+spelled_names x = spelled_in x.list

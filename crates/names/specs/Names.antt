@@ -1,5 +1,6 @@
 -- Names as the lists of their bytes.
 use Rattle.std.specs.Prelude.{ℕ, Bool, true, cond, not, ◌&&◌, ◌||◌, List, [], ◌∷◌, ◌++◌, length, Ok, codes, Result, nat_le, nat_lt, slice_index}
+use Rattle.std.specs.List.{list_all}
 use Rattle.std.specs.Str.{bytes_eq}
 use Rattle.refusal.specs.declared.Layer.TheVariants.{Names}
 use Rattle.refusal.specs.Answers.{Said, refused}
@@ -16,8 +17,7 @@ abbrev pub wordly : ℕ → Bool
 wordly b = lower b || digit b
 
 abbrev pub wordly_throughout : List ℕ → Bool
-wordly_throughout [] = true
-wordly_throughout (b ∷ bs) = wordly b && wordly_throughout bs
+wordly_throughout w = list_all wordly w
 
 -- letters and digits, a letter first
 abbrev pub is_word_text : List ℕ → Bool

@@ -1,10 +1,11 @@
 -- The bytes of names that the code holds.
-use Rattle.std.specs.Prelude.{ℕ, List, map, take}
+use Rattle.std.specs.Prelude.{ℕ, List, map}
+use Rattle.few.specs.declared.held.Few.{Few}
+use Rattle.few.specs.Items.{items}
 use Rattle.names.specs.declared.name.Name.{Name}
 
 abbrev pub spelled : Name → List ℕ
-spelled x = take x.len x.bytes
+spelled x = items x.bytes
 
--- the first n names of a row
-abbrev pub spelled_in : ℕ → List Name → List (List ℕ)
-spelled_in n row = map spelled (take n row)
+abbrev pub spelled_in : {N : ℕ} → Few Name N → List (List ℕ)
+spelled_in list = map spelled (items list)

@@ -4,19 +4,16 @@ ghost use Rattle.names.specs.Listed.{spelled_names};
 
 use crate::list::Names;
 use crate::name::Name;
+use few::Few;
 
 impl Names {
     // No names.
     pub fn none() -> Names
         ensures { spelled_names result ≡ [] }
     {
-        let blank = Name {
-            bytes: [0; 8],
-            len: 0,
-        };
+        let blank = Name { bytes: Few::new(0) };
         Names {
-            list: [blank; 6],
-            count: 0,
+            list: Few::new(blank),
         }
     }
 
@@ -25,17 +22,16 @@ impl Names {
         ensures value { result ≡ length (spelled_names self.now) }
         ensures few { result ≤ 6 }
     {
-        self.count
+        self.list.len()
     }
 
     // The bytes of name k, none where there is no such name.
     pub fn get(&self, k: usize) -> &[u8]
         ensures { result.now ≡ slice_index_or (spelled_names self.now) k [] }
     {
-        if k >= self.count {
-            return &[];
+        match self.list.as_slice().get(k) {
+            Some(name) => name.bytes.as_slice(),
+            None => &[],
         }
-        let name = &self.list[k];
-        &name.bytes[0..name.len]
     }
 }

@@ -1,8 +1,8 @@
 // Declaring names, and finding them again.
-ghost use Rattle.std.specs.Prelude.{◌≡◌, ◌<◌, ◌≤◌, Bool, true, false, List, [], length, is_ok};
+ghost use Rattle.std.specs.Prelude.{◌≡◌, ◌≤◌, false, ◌↔◌, length, is_ok, IsOk, IfOk};
+ghost use Rattle.std.specs.List.{position_from};
 ghost use Rattle.std.specs.Str.{bytes_eq};
 ghost use Rattle.refusal.specs.Answers.{answer};
-ghost use Rattle.ltl.specs.Lists.{position};
 ghost use Rattle.names.specs.Names.{declared};
 ghost use Rattle.names.specs.Spelled.{spelled};
 ghost use Rattle.names.specs.Listed.{spelled_names};
@@ -10,38 +10,36 @@ ghost use Rattle.names.specs.Listed.{spelled_names};
 use crate::list::Names;
 use crate::name::Name;
 use crate::spelling::{is_same, is_well_formed};
+use few::{Few, Full};
 use refusal::{Cause, Layer, Refusal};
 
 impl Name {
     // A word of at most 8 bytes as a name.
-    fn of(word: &[u8]) -> Name
-        requires { length word.now ≤ 8 }
-        ensures { spelled result ≡ word.now }
+    fn of(word: &[u8]) -> Result<Name, Full>
+        ensures room { IsOk result ↔ (length word.now ≤ 8) }
+        ensures bytes { IfOk result (λ name. spelled name ≡ word.now) }
     {
-        let mut bytes = [0; 8];
-        let len = word.len();
-        bytes[0..len].copy_from_slice(word);
-        Name { bytes, len }
+        let mut bytes = Few::new(0);
+        bytes.extend(word)?;
+        Ok(Name { bytes })
     }
 
     fn spells(&self, word: &[u8]) -> bool
         ensures { result ≡ bytes_eq word.now (spelled self.now) }
     {
-        is_same(word, &self.bytes[0..self.len])
+        is_same(word, self.bytes.as_slice())
     }
 }
 
 impl Names {
-    // The number of a name, or how many names there are where it is not declared.
-    pub fn find(&self, word: &[u8]) -> usize
-        ensures { result ≡ position bytes_eq word.now (spelled_names self.now) }
+    // The number of a name, where it is declared.
+    pub fn find(&self, word: &[u8]) -> Option<usize>
+        ensures { result ≡ position_from (bytes_eq word.now) 0 (spelled_names self.now) }
     {
-        for i in 0..self.count {
-            if self.list[i].spells(word) {
-                return i;
-            }
-        }
-        self.count
+        self.list
+            .as_slice()
+            .iter()
+            .position(|name| name.spells(word))
     }
 
     // One name more, behind the others; refused, nothing changes.
@@ -49,18 +47,17 @@ impl Names {
         ensures outcome { answer (λ _. spelled_names self.new) result ≡ declared (spelled_names self.old) word.now }
         ensures kept { is_ok result ≡ false → self.new ≡ self.old }
     {
-        let at = self.count;
+        let at = self.len();
         if at >= 6 {
             return Err(Refusal::new(Cause::ExcessName, Layer::Names, 6));
         }
         if !is_well_formed(word) {
             return Err(Refusal::new(Cause::MalformedName, Layer::Names, at));
         }
-        if self.find(word) < at {
+        if self.find(word).is_some() {
             return Err(Refusal::new(Cause::RepeatedName, Layer::Names, at));
         }
-        self.list[at] = Name::of(word);
-        self.count = at + 1;
+        self.list.push(Name::of(word).unwrap()).unwrap();
         Ok(())
     }
 }

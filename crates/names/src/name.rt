@@ -1,10 +1,10 @@
-// One name, in a fixed row of its longest length.
+// One name, by its bytes.
 ghost use Rattle.std.specs.Prelude.{◌≡◌, ◌≤◌, length};
+ghost use Rattle.names.specs.Spelled.{spelled};
+
+use few::Few;
 
 #[derive(Clone, Copy)]
 pub struct Name {
-    pub bytes: [u8; 8],
-    pub len: usize,
-    ghost few: { len ≤ 8 },
-    ghost size: { length bytes ≡ 8 },
+    pub(crate) bytes: Few<u8, 8>,
 }

@@ -4,33 +4,35 @@
 ghost use Rattle.std.specs.Prelude.{◌≡◌};
 ghost use Rattle.refusal.specs.Answers.{number, layer_name};
 
-// What was wrong, in the order of the numbers 1 to 21.
-#[derive(Clone, Copy)]
+use std::fmt;
+
+// What was wrong, with the number that a report prints.
+#[derive(Clone, Copy, Debug, PartialEq, Eq)]
 pub enum Cause {
-    MalformedName,
-    RepeatedName,
-    ExcessName,
-    LongText,
-    UnexpectedMark,
-    UndeclaredName,
-    DeepRule,
-    ManySubformulae,
-    ManyTemporal,
-    EmptyCycle,
-    LongRound,
-    ForeignBit,
-    ManyPairs,
-    FullTable,
-    ShortTable,
-    OtherTables,
-    StateWaits,
-    NothingWaits,
-    FullTrail,
-    ShortOutput,
-    BadField,
+    MalformedName = 1,
+    RepeatedName = 2,
+    ExcessName = 3,
+    LongText = 4,
+    UnexpectedMark = 5,
+    UndeclaredName = 6,
+    DeepRule = 7,
+    ManySubformulae = 8,
+    ManyTemporal = 9,
+    EmptyCycle = 10,
+    LongRound = 11,
+    ForeignBit = 12,
+    ManyPairs = 13,
+    FullTable = 14,
+    ShortTable = 15,
+    OtherTables = 16,
+    StateWaits = 17,
+    NothingWaits = 18,
+    FullTrail = 19,
+    ShortOutput = 20,
+    BadField = 21,
 }
 
-#[derive(Clone, Copy)]
+#[derive(Clone, Copy, Debug, PartialEq, Eq)]
 pub enum Layer {
     Names,
     Rule,
@@ -42,7 +44,7 @@ pub enum Layer {
     Sheet,
 }
 
-#[derive(Clone, Copy)]
+#[derive(Clone, Copy, Debug, PartialEq, Eq)]
 pub struct Refusal {
     pub cause: Cause,
     pub layer: Layer,
@@ -66,29 +68,7 @@ impl Cause {
     pub fn number(self) -> u8
         ensures { result ≡ number self }
     {
-        match self {
-            Cause::MalformedName => 1,
-            Cause::RepeatedName => 2,
-            Cause::ExcessName => 3,
-            Cause::LongText => 4,
-            Cause::UnexpectedMark => 5,
-            Cause::UndeclaredName => 6,
-            Cause::DeepRule => 7,
-            Cause::ManySubformulae => 8,
-            Cause::ManyTemporal => 9,
-            Cause::EmptyCycle => 10,
-            Cause::LongRound => 11,
-            Cause::ForeignBit => 12,
-            Cause::ManyPairs => 13,
-            Cause::FullTable => 14,
-            Cause::ShortTable => 15,
-            Cause::OtherTables => 16,
-            Cause::StateWaits => 17,
-            Cause::NothingWaits => 18,
-            Cause::FullTrail => 19,
-            Cause::ShortOutput => 20,
-            Cause::BadField => 21,
-        }
+        self as u8
     }
 }
 
@@ -107,5 +87,24 @@ impl Layer {
             Layer::Saved => "saved",
             Layer::Sheet => "sheet",
         }
+    }
+}
+
+impl fmt::Display for Layer {
+    fn fmt<W: fmt::Write>(&self, f: &mut fmt::Formatter<W>) -> fmt::Result {
+        f.write_str(self.name())
+    }
+}
+
+// A refusal as a report prints it.
+impl fmt::Display for Refusal {
+    fn fmt<W: fmt::Write>(&self, f: &mut fmt::Formatter<W>) -> fmt::Result {
+        write!(
+            f,
+            "refused {} {} place {}",
+            self.cause.number(),
+            self.layer,
+            self.place
+        )
     }
 }

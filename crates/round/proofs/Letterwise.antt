@@ -1,8 +1,7 @@
 -- Letters and the names that they speak of. Assumes nothing.
 use Rattle.std.proofs.Common.{◌≡◌, ℕ, ◌+◌, ◌/◌, ◌^◌, ◌<◌, ◌≤◌, Bool, true, false, not, cond, eqb, nat_lt, List, ◌++◌, length, length-append, Ok, Some, None, sym, refl, ap, ◌∙◌, inl, inr, arith, pow_mono}
-use Rattle.std.specs.List.{prefix_len, position_from, position_or_len}
-use Rattle.std.proofs.lemmas.List.Recursion.{is_position_or_len}
-use Rattle.std.proofs.lemmas.Iterator.Adapters.{position_from-zero}
+use Rattle.std.specs.List.{prefix_len, position_from}
+use Rattle.ltl.proofs.Search.{found_behind}
 use Rattle.std.proofs.lemmas.Bool.{lt-ltb, cases_lt}
 use Rattle.std.proofs.lemmas.Nat.{pow_pos, le-div, div_below}
 use Rattle.std.proofs.lemmas.Bool.Decides.{Decides-eqb, Decides-ltb, Decides-like, same_from_decides, nat_tests}
@@ -25,20 +24,14 @@ shifted_within n letter =
     gone : letter < 2 ^ n → letter / 2 ^ n ≡ 0
     gone l = omega (arith, div_below letter (2 ^ n) 1 (pow_pos n) (omega arith))
 
--- a search for the first that fails ends where the longest passing front does
-pub found_behind : {X : Type 0} (p : X → Bool) (xs : List X)
-    → cond (nat_lt (prefix_len p xs) (length xs)) (Some (prefix_len p xs)) None ≡ position_from (λ x. not (p x)) 0 xs
-found_behind p xs =
-    let same : prefix_len p xs ≡ position_or_len (λ x. not (p x)) xs = is_position_or_len (prefix_len p) (λ x. not (p x)) refl (λ x ys. turned (p x) (1 + prefix_len p ys)) xs in
-    ap (λ i. cond (nat_lt i (length xs)) (Some i) None) same ∙ position_from-zero (λ x. not (p x)) xs
-  where
-    turned : (b : Bool) (n : ℕ) → cond b n 0 ≡ cond (not b) 0 n
-    turned true n = refl
-    turned false n = refl
+-- what is not within is what is first beyond
+opposite : (b : Bool) → b ≡ not (not b)
+opposite true = refl
+opposite false = refl
 
 module _ (n : ℕ) (lead cycle : List ℕ) (few : length lead + length cycle ≤ 1024) (some : 0 < length cycle) where
   pub refused_beyond : (i : ℕ) → Some i ≡ position_from (λ x. not (within n x)) 0 (lead ++ cycle) → refused 12 Round i ≡ sound n lead cycle
-  refused_beyond i e = let f = found_behind (within n) (lead ++ cycle) in let l = length-append lead cycle in grind (arith, nat_tests)
+  refused_beyond i e = let f = found_behind (λ x. not (within n x)) (within n) (λ x. opposite (within n x)) (lead ++ cycle) in let l = length-append lead cycle in grind (arith, nat_tests)
 
   pub granted_within : None ≡ position_from (λ x. not (within n x)) 0 (lead ++ cycle) → Ok tt ≡ sound n lead cycle
-  granted_within e = let f = found_behind (within n) (lead ++ cycle) in let l = length-append lead cycle in grind (arith, nat_tests)
+  granted_within e = let f = found_behind (λ x. not (within n x)) (within n) (λ x. opposite (within n x)) (lead ++ cycle) in let l = length-append lead cycle in grind (arith, nat_tests)
