@@ -1,6 +1,6 @@
 -- What each subformula of a rule is written as.
-use Rattle.std.proofs.Common.{◌≡◌, ℕ, ◌+◌, ◌-◌, ◌<◌, ◌≤◌, cond, List, [], ◌∷◌, ◌++◌, length, get_or, drop, Ok, sym, refl, ap, ◌∙◌, subst, arith, length-append}
-use Rattle.std.proofs.lemmas.List.{append-nil, append_assoc, length-take-le, get_or-take}
+use Rattle.std.proofs.Common.{◌≡◌, ℕ, ◌+◌, ◌<◌, ◌≤◌, cond, List, [], ◌∷◌, ◌++◌, length, get_or, drop, Ok, sym, refl, ap, ◌∙◌, subst, arith, length-append}
+use Rattle.std.proofs.lemmas.List.{append-nil, append_assoc}
 use Rattle.std.proofs.lemmas.Bool.{lt-ltb, le-ltb}
 use Rattle.refusal.specs.declared.Layer.TheVariants as Refuser
 use Rattle.refusal.specs.Answers.{refused}
@@ -65,10 +65,6 @@ node_written r (Or i j) = joined 124 (meant r i) (meant r j) (written_rest (mean
 node_written r (Eventually i) = refl
 node_written r (Always i) = refl
 
--- a rule has as many nodes as it counts
-pub length_nodes : (r : Rule) → length (nodes_in r) ≡ r.count
-length_nodes r = let few = r.few in let size = r.size in length-take-le r.count r.nodes (omega arith)
-
 -- how many bytes a node has when it is written
 abbrev pub width_in : Rule → Node → ℕ
 width_in r True = 2
@@ -101,19 +97,14 @@ pub record Part (r : Rule) (k : ℕ) (n : Node) : Type 0 where
   pub width : length (part_in r k) ≡ width_in r n
   pub fits : Fits k n
 
--- subformula k is node k, written
-pub part_at : (r : Rule) (k : ℕ) {n : Node} → k < r.count → get_or r.nodes k True ≡ n → Part r k n
-part_at r k {n} h e =
-    let same : get_or (nodes_in r) k True ≡ n = get_or-take r.count r.nodes k True h ∙ e in
-    let inside : k < length (nodes_in r) = omega (arith, length_nodes r) in
+-- subformula k is node k, written; i is k as it is looked up
+pub part_at : (r : Rule) (k : ℕ) {i : ℕ} {m n : Node} → k < length (nodes_in r) → i ≡ k → m ≡ get_or (nodes_in r) i True → m ≡ n → Part r k n
+part_at r k {i} {m} {n} inside place found is_n =
+    let same : get_or (nodes_in r) k True ≡ n = ap (λ j. get_or (nodes_in r) j True) (sym place) ∙ sym found ∙ is_n in
     let fits = sound_tidy (length (names_in r)) (nodes_in r) r.sound k inside in
     let is : part_in r k ≡ node_in r n =
     ap (λ φ. written_on (named (names_in r) φ) []) (mean_at (nodes_in r) k inside fits ∙ ap (meaning_of (meanings (nodes_in r))) same) ∙ node_written r n in
     record { is = is; width = ap length is ∙ node_width r n; fits = subst (Fits k) same fits }
-
--- the last subformula is the whole rule
-pub part_last : (r : Rule) (k : ℕ) → k ≡ r.count - 1 → part_in r k ≡ word_in r
-part_last r k e = ap (part_in r) (e ∙ ap (λ n. n - 1) (sym (length_nodes r)))
 
 -- an output too short for the rule is refused and stays as it is
 pub too_short : (r : Rule) (xs : List ℕ) → length xs < length (word_in r) → (writing r (length xs) ≡ refused 20 Refuser.Rule 0) × (written_into r xs ≡ xs)

@@ -1,16 +1,17 @@
 -- What a rule says.
-use Rattle.std.specs.Prelude.{◌≡◌, ℕ, List, take, Result}
+use Rattle.std.specs.Prelude.{◌≡◌, ℕ, List, Result}
 use Rattle.ltl.specs.declared.Node.{Node}
 use Rattle.ltl.specs.Formula.{Formula}
 use Rattle.ltl.specs.Arena.{root, arena}
 use Rattle.ltl.specs.Laws.{Numbers}
 use Rattle.refusal.specs.Answers.{Said}
+use Rattle.few.specs.Items.{items}
 use Rattle.names.specs.Listed.{spelled_names}
 use Rattle.grammar.specs.Laws.{Outcome}
 use Rattle.rule.specs.declared.held.Rule.{Rule}
 
 abbrev pub nodes_in : Rule → List Node
-nodes_in r = take r.count r.nodes
+nodes_in r = items r.nodes
 
 abbrev pub names_in : Rule → List (List ℕ)
 names_in r = spelled_names r.names

@@ -28,7 +28,7 @@ impl Rule {
         ensures value { result ≡ temporals (nodes_in self.now) }
         ensures few { result ≤ 8 }
     {
-        temporals_among(&self.nodes, self.count)
+        temporals_among(self.nodes())
     }
 
     // The distinct subformulae, each behind its parts; the last is the rule itself.
@@ -37,7 +37,7 @@ impl Rule {
         ensures some { 0 < length result.now }
         ensures few { length result.now ≤ 32 }
     {
-        &self.nodes[..self.count]
+        self.nodes.as_slice()
     }
 
     // How many distinct subformulae there are.
@@ -46,16 +46,13 @@ impl Rule {
         ensures some { 0 < result }
         ensures few { result ≤ 32 }
     {
-        self.count
+        self.nodes.len()
     }
 
     // Subformula k, the constant truth where there is no such subformula.
     pub fn node(&self, k: usize) -> Node
         ensures { result ≡ slice_index_or (nodes_in self.now) k Node.True }
     {
-        if k >= self.count {
-            return Node::True;
-        }
-        self.nodes[k]
+        self.nodes().get(k).copied().unwrap_or(Node::True)
     }
 }

@@ -1,14 +1,10 @@
-// The distinct subformulae found so far, in 32 places, so that reading cannot fail for want of memory.
-ghost use Rattle.std.specs.Prelude.{◌≡◌, ◌≤◌, length};
-
+// The distinct subformulae found so far.
+use few::Few;
 use ltl::Node;
 
 #[derive(Clone, Copy)]
 pub struct Pool {
-    pub nodes: [Node; 32],
-    pub count: usize,
-    // whether a subformula found no place
+    pub nodes: Few<Node, 32>,
+    // whether a subformula found no place; the nodes are still searched then, since reading goes on
     pub over: bool,
-    ghost few: { count ≤ 32 },
-    ghost size: { length nodes ≡ 32 },
 }

@@ -8,34 +8,16 @@ ghost use Rattle.rule.specs.Pools.{held, stepped};
 
 use crate::pool::Pool;
 use lexer::{Lexeme, Lexer, Token};
-use ltl::{Node, Operator};
+use ltl::Node;
 use names::Names;
 use refusal::{Cause, Layer, Refusal};
 
-// The number of a name that stands at a place.
-fn number_of(names: &Names, word: &[u8], place: usize) -> Result<u8, Refusal>
-    ensures { answer (λ k. k) result ≡ known (spelled_names names.now) word.now place }
-{
-    let k = names.find(word);
-    if k >= names.len() {
-        return Err(Refusal::new(Cause::UndeclaredName, Layer::Rule, place));
-    }
-    Ok(k as u8)
-}
-
-// What stands behind a `!`.
-fn read_negated(names: &Names, lexer: &mut Lexer<'_>, pool: &mut Pool) -> Result<u8, Refusal>
-    ensures outcome { answer (stepped pool.new lexer.new) result ≡ and_then (lex (length (text_of lexer.old)) (remaining lexer.old)) (λ y. negated_name (spelled_names names.now) (held pool.old) y y.mark) }
-    ensures same { text_of lexer.new ≡ text_of lexer.old }
-{
-    let lexeme = lexer.next()?;
-    match lexeme.token {
-        Token::Name(word) => {
-            let k = number_of(names, word, lexeme.place)?;
-            Ok(pool.put(Node::NotAtom(k)))
-        }
-        _ => Err(Refusal::new(Cause::UnexpectedMark, Layer::Rule, lexeme.place)),
-    }
+// A text that is being read, with the names that it may speak of and what has been found in it.
+#[derive(Drop)]
+pub(crate) struct Reader<'a> {
+    pub names: &'a Names,
+    pub lexer: Lexer<'a>,
+    pub pool: Pool,
 }
 
 // What is wrong with a mark at which a rule would be too deep: where no rule can begin with it, it is unexpected as everywhere.
@@ -49,43 +31,68 @@ fn too_deep(lexeme: Lexeme<'_>) -> Refusal
     Refusal::new(cause, Layer::Rule, lexeme.place)
 }
 
-// A rule with `left` levels of depth to go, which makes the descent end. At none left a rule is too deep.
-pub(crate) fn read_rule(
-    names: &Names,
-    lexer: &mut Lexer<'_>,
-    pool: &mut Pool,
-    left: u8,
-) -> Result<u8, Refusal>
-    ensures outcome { answer (stepped pool.new lexer.new) result ≡ descend left (spelled_names names.now) (length (text_of lexer.old)) (held pool.old) (remaining lexer.old) }
-    ensures same { text_of lexer.new ≡ text_of lexer.old }
-{
-    let lexeme = lexer.next()?;
-    if left == 0 {
-        return Err(too_deep(lexeme));
+impl Reader<'_> {
+    // The number of a name that stands at a place.
+    fn number_of(&self, word: &[u8], place: usize) -> Result<u8, Refusal>
+        ensures { answer (λ k. k) result ≡ known (spelled_names self.now.names.now) word.now place }
+    {
+        match self.names.find(word) {
+            Some(k) => Ok(k as u8),
+            None => Err(Refusal::new(Cause::UndeclaredName, Layer::Rule, place)),
+        }
     }
-    match lexeme.token {
-        Token::True => Ok(pool.put(Node::True)),
-        Token::False => Ok(pool.put(Node::False)),
-        Token::Name(word) => {
-            let k = number_of(names, word, lexeme.place)?;
-            Ok(pool.put(Node::Atom(k)))
+
+    // What stands behind a `!`.
+    fn read_negated(&mut self) -> Result<u8, Refusal>
+        ensures outcome { answer (stepped self.new.pool self.new.lexer) result ≡ and_then (lex (length (text_of self.old.lexer)) (remaining self.old.lexer)) (λ y. negated_name (spelled_names self.old.names.now) (held self.old.pool) y y.mark) }
+        ensures same { text_of self.new.lexer ≡ text_of self.old.lexer }
+        ensures names { self.new.names.now ≡ self.old.names.now }
+    {
+        let lexeme = self.lexer.next()?;
+        match lexeme.token {
+            Token::Name(word) => {
+                let k = self.number_of(word, lexeme.place)?;
+                Ok(self.pool.put(Node::NotAtom(k)))
+            }
+            _ => Err(Refusal::new(Cause::UnexpectedMark, Layer::Rule, lexeme.place)),
         }
-        Token::Not => read_negated(names, lexer, pool),
-        Token::Eventually => {
-            let part = read_rule(names, lexer, pool, left - 1)?;
-            Ok(pool.put(Node::Eventually(part)))
+    }
+
+    // A rule with `left` levels of depth to go, which makes the descent end. At none left a rule is too deep.
+    #[tactic(auto, using(crate::proofs::Levels::one_level, crate::proofs::Levels::no_level))]
+    pub(crate) fn read_rule(&mut self, left: u8) -> Result<u8, Refusal>
+        ensures outcome { answer (stepped self.new.pool self.new.lexer) result ≡ descend left (spelled_names self.old.names.now) (length (text_of self.old.lexer)) (held self.old.pool) (remaining self.old.lexer) }
+        ensures same { text_of self.new.lexer ≡ text_of self.old.lexer }
+        ensures names { self.new.names.now ≡ self.old.names.now }
+    {
+        let lexeme = self.lexer.next()?;
+        if left == 0 {
+            return Err(too_deep(lexeme));
         }
-        Token::Always => {
-            let part = read_rule(names, lexer, pool, left - 1)?;
-            Ok(pool.put(Node::Always(part)))
+        match lexeme.token {
+            Token::True => Ok(self.pool.put(Node::True)),
+            Token::False => Ok(self.pool.put(Node::False)),
+            Token::Name(word) => {
+                let k = self.number_of(word, lexeme.place)?;
+                Ok(self.pool.put(Node::Atom(k)))
+            }
+            Token::Not => self.read_negated(),
+            Token::Eventually => {
+                let part = self.read_rule(left - 1)?;
+                Ok(self.pool.put(Node::Eventually(part)))
+            }
+            Token::Always => {
+                let part = self.read_rule(left - 1)?;
+                Ok(self.pool.put(Node::Always(part)))
+            }
+            Token::Open => {
+                let first = self.read_rule(left - 1)?;
+                let operator = self.lexer.operator()?;
+                let second = self.read_rule(left - 1)?;
+                self.lexer.closing()?;
+                Ok(self.pool.put(operator.join(first, second)))
+            }
+            _ => Err(Refusal::new(Cause::UnexpectedMark, Layer::Rule, lexeme.place)),
         }
-        Token::Open => {
-            let first = read_rule(names, lexer, pool, left - 1)?;
-            let operator = lexer.operator()?;
-            let second = read_rule(names, lexer, pool, left - 1)?;
-            lexer.closing()?;
-            Ok(pool.put(operator.join(first, second)))
-        }
-        _ => Err(Refusal::new(Cause::UnexpectedMark, Layer::Rule, lexeme.place)),
     }
 }

@@ -1,7 +1,6 @@
 // From a text to a rule.
-ghost use Rattle.std.specs.Prelude.{◌≡◌, length, IfOk};
+ghost use Rattle.std.specs.Prelude.{◌≡◌, IfOk};
 ghost use Rattle.refusal.specs.Answers.{answer};
-ghost use Rattle.ltl.specs.Arena.{temporals};
 ghost use Rattle.names.specs.Listed.{spelled_names};
 ghost use Rattle.grammar.specs.Descent.{Held, counted, whole_text, reading};
 ghost use Rattle.rule.specs.Pools.{held};
@@ -9,34 +8,24 @@ ghost use Rattle.rule.specs.Rules.{nodes_in, names_in, ByGrammar, Enumerates};
 
 use crate::held::Rule;
 use crate::pool::Pool;
-use crate::reader::read_rule;
+use crate::reader::Reader;
+use crate::temporal::temporals_among;
 use lexer::Lexer;
 use names::Names;
 use refusal::{Cause, Layer, Refusal};
-
-impl Pool {
-    fn temporals(&self) -> usize
-        ensures { result ≡ temporals (held self.now).nodes }
-    {
-        let mut found = 0;
-        for i in 0..self.count {
-            if self.nodes[i].is_temporal() {
-                found += 1;
-            }
-        }
-        found
-    }
-}
 
 // The subformulae of a whole text.
 fn read_text(names: &Names, text: &[u8]) -> Result<Pool, Refusal>
     ensures { answer held result ≡ whole_text (spelled_names names.now) text.now }
 {
-    let mut lexer = Lexer::new(text);
-    let mut pool = Pool::new();
-    let _ = read_rule(names, &mut lexer, &mut pool, 24)?;
-    lexer.end()?;
-    Ok(pool)
+    let mut reader = Reader {
+        names,
+        lexer: Lexer::new(text),
+        pool: Pool::new(),
+    };
+    let _ = reader.read_rule(24)?;
+    reader.lexer.end()?;
+    Ok(reader.pool)
 }
 
 // The subformulae of a text that keeps within all limits.
@@ -50,7 +39,7 @@ fn read_within(names: &Names, text: &[u8]) -> Result<Pool, Refusal>
     if pool.over {
         return Err(Refusal::new(Cause::ManySubformulae, Layer::Rule, 0));
     }
-    if pool.temporals() > 8 {
+    if temporals_among(pool.nodes.as_slice()) > 8 {
         return Err(Refusal::new(Cause::ManyTemporal, Layer::Rule, 0));
     }
     Ok(pool)
@@ -65,11 +54,9 @@ impl Rule {
         ensures numbering { IfOk result Enumerates }
     {
         let pool = read_within(names, text)?;
-        let nodes = pool.nodes;
         Ok(Rule {
             names: *names,
-            nodes,
-            count: pool.count,
+            nodes: pool.nodes,
         })
     }
 }

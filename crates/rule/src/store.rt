@@ -1,11 +1,12 @@
 // Putting subformulae into the pool, each once.
 ghost use Rattle.std.specs.Prelude.{◌≡◌};
-ghost use Rattle.ltl.specs.Lists.{position};
+ghost use Rattle.std.specs.List.{position_from};
 ghost use Rattle.ltl.specs.Arena.{same_node};
 ghost use Rattle.grammar.specs.Descent.{Held, nothing_held, put};
 ghost use Rattle.rule.specs.Pools.{held};
 
 use crate::pool::Pool;
+use few::{Few, Full};
 use ltl::Node;
 
 impl Pool {
@@ -13,22 +14,17 @@ impl Pool {
         ensures { held result ≡ nothing_held }
     {
         Pool {
-            nodes: [Node::True; 32],
-            count: 0,
+            nodes: Few::new(Node::True),
             over: false,
         }
     }
 
-    // The number of a node, or how many there are where it is not among them.
-    fn find(&self, node: Node) -> usize
-        ensures { result ≡ position same_node node (held self.now).nodes }
+    // The number of a node, where it is among them.
+    fn find(&self, node: Node) -> Option<usize>
+        ensures { result ≡ position_from (same_node node) 0 (held self.now).nodes }
     {
-        for i in 0..self.count {
-            if node.is_same(self.nodes[i]) {
-                return i;
-            }
-        }
-        self.count
+        let nodes = self.nodes.as_slice();
+        nodes.iter().position(|known| node == *known)
     }
 
     // The number of a node, which is put behind the others where it is new. Past the last place it is only noted that there are too many.
@@ -36,16 +32,16 @@ impl Pool {
         ensures after { held self.new ≡ (put node (held self.old)).0 }
         ensures number { result ≡ (put node (held self.old)).1 }
     {
-        let at = self.find(node);
-        if at < self.count {
+        if let Some(at) = self.find(node) {
             return at as u8;
         }
-        if at >= 32 {
-            self.over = true;
-            return 0;
+        let at = self.nodes.len();
+        match self.nodes.push(node) {
+            Ok(()) => at as u8,
+            Err(Full) => {
+                self.over = true;
+                0
+            }
         }
-        self.nodes[at] = node;
-        self.count = at + 1;
-        at as u8
     }
 }

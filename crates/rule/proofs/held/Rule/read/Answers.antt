@@ -1,11 +1,10 @@
-use Rattle.std.proofs.Common.{sym, refl, ◌∙◌, arith}
+use Rattle.std.proofs.Common.{sym, refl, ◌∙◌}
 use Rattle.std.proofs.lemmas.Result.{IfOk-from_err}
 use Rattle.refusal.proofs.Exits.{handed_on}
 use Rattle.ltl.proofs.Numbering.{numbering}
 use Rattle.names.specs.Listed.{spelled_names}
 use Rattle.rule.specs.Pools.{held}
 use Rattle.rule.specs.Rules.{nodes_in, Enumerates}
-use Rattle.rule.proofs.Pooled.{pool_count}
 use Rattle.rule.proofs.Whole.{read_sound, by_grammar}
 use Rattle.rule.proofs.held.Rule.read.Goals as goal
 
@@ -25,7 +24,7 @@ invariant_of-result c =
     let names = c.args.names.now in
     let pool = c.in_ok-pool.pool in
     let s = read_sound (spelled_names names) names.sound c.args.text.now (held pool).nodes (sym c.in_ok-pool.ensures) in
-    record { few = pool.few; size = pool.size; some = omega (arith, s.some, pool_count pool); sound = s.sound; temporal = s.temporal; numbered = s.numbered; short = s.short }
+    record { some = s.some; sound = s.sound; temporal = s.temporal; numbered = s.numbered; short = s.short }
 
 pub returns : goal.returns
 returns c =
