@@ -1,6 +1,6 @@
 -- Letters and the names that they speak of. Assumes nothing.
-use Rattle.std.proofs.Common.{◌≡◌, ℕ, ◌+◌, ◌/◌, ◌^◌, ◌<◌, ◌≤◌, Bool, true, false, not, cond, eqb, nat_lt, List, ◌++◌, length, length-append, Ok, Some, None, sym, refl, ap, ◌∙◌, inl, inr, arith, pow_mono}
-use Rattle.std.specs.List.{prefix_len, position_from}
+use Rattle.std.proofs.Common.{◌≡◌, ℕ, ◌+◌, ◌/◌, ◌^◌, ◌<◌, ◌≤◌, Bool, true, false, not, eqb, List, ◌++◌, length, length-append, Ok, Some, None, sym, refl, inl, inr, arith, pow_mono}
+use Rattle.std.specs.List.{position_from}
 use Rattle.ltl.proofs.Search.{found_behind}
 use Rattle.std.proofs.lemmas.Bool.{lt-ltb, cases_lt}
 use Rattle.std.proofs.lemmas.Nat.{pow_pos, le-div, div_below}
