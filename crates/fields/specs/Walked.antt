@@ -1,8 +1,8 @@
 -- A walk over the fields of bytes.
-use Rattle.std.specs.Prelude.{ℕ, List, [], ◌∷◌, drop}
+use Rattle.std.specs.Prelude.{ℕ, List, [], ◌∷◌, drop, Option, Some, None, Result, Ok, Err}
 use Rattle.fields.specs.declared.piece.Fields.{Fields}
-use Rattle.fields.specs.declared.piece.Piece.{Piece}
-use Rattle.fields.specs.declared.piece.Piece.TheVariants.{Whole, Cut, End}
+use Rattle.fields.specs.declared.piece.Field.{Field}
+use Rattle.fields.specs.declared.piece.Cut.{Cut}
 use Rattle.fields.specs.Pieces.{Part, parts_from}
 use Rattle.fields.specs.Pieces.Part.{whole, cut}
 
@@ -24,7 +24,7 @@ next [] = ended
 next (whole p t b ∷ ps) = took p t b ps
 next (cut p ∷ ps) = broke p
 
-abbrev pub met : Fields → Piece → Met
-met f (Whole x) = took x.place x.tag x.body.now (remaining f)
-met f (Cut p) = broke p
-met f End = ended
+abbrev pub met : Fields → Result (Option Field) Cut → Met
+met f (Ok (Some x)) = took x.place x.tag x.body.now (remaining f)
+met f (Ok None) = ended
+met f (Err c) = broke c.place

@@ -4,4 +4,4 @@
 pub mod piece;
 pub mod walk;
 
-pub use piece::{Field, Fields, Piece};
+pub use piece::{Cut, Field, Fields};

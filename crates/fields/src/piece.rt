@@ -1,5 +1,5 @@
 // The pieces that bytes fall into.
-#[derive(Clone, Copy)]
+#[derive(Clone, Copy, Debug, PartialEq, Eq)]
 pub struct Field<'a> {
     // the place of its tag
     pub place: usize,
@@ -7,16 +7,14 @@ pub struct Field<'a> {
     pub body: &'a [u8],
 }
 
-#[derive(Clone, Copy)]
-pub enum Piece<'a> {
-    Whole(Field<'a>),
-    // a field that runs past the end, with the place of its tag
-    Cut(usize),
-    End,
+// A field runs past the end of the bytes; the place is that of its tag.
+#[derive(Clone, Copy, Debug, PartialEq, Eq)]
+pub struct Cut {
+    pub place: usize,
 }
 
 // Bytes, read up to a place.
-#[derive(Clone, Copy)]
+#[derive(Clone, Copy, Debug)]
 pub struct Fields<'a> {
     pub bytes: &'a [u8],
     pub at: usize,

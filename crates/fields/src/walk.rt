@@ -1,18 +1,8 @@
 // Going through bytes field by field.
-ghost use Rattle.std.specs.Prelude.{◌≡◌, ◌+◌, ◌<◌, ◌≤◌, length, drop};
-ghost use Rattle.fields.specs.Pieces.{told};
+ghost use Rattle.std.specs.Prelude.{◌≡◌, IfOk, IfNone, OnErr};
 ghost use Rattle.fields.specs.Walked.{bytes_of, remaining, next, met};
 
-use crate::piece::{Field, Fields, Piece};
-
-// The length that stands behind the tag at `at`.
-fn told_length(bytes: &[u8], at: usize) -> usize
-    requires { at + 3 ≤ length bytes.now }
-    ensures value { result ≡ told (drop (at + 1) bytes.now) }
-    ensures bound { result < 65536 }
-{
-    bytes[at + 1] as usize * 256 + bytes[at + 2] as usize
-}
+use crate::piece::{Cut, Field, Fields};
 
 impl<'a> Fields<'a> {
     pub fn new(bytes: &'a [u8]) -> Fields<'a>
@@ -22,30 +12,27 @@ impl<'a> Fields<'a> {
         Fields { bytes, at: 0 }
     }
 
-    // The next field; behind a field that is cut the walk does not go on.
-    pub fn next(&mut self) -> Piece<'a>
+    // The next field, where there is one; behind a field that is cut the walk does not go on.
+    pub fn next(&mut self) -> Result<Option<Field<'a>>, Cut>
         ensures outcome { met self.new result ≡ next (remaining self.old) }
         ensures same { bytes_of self.new ≡ bytes_of self.old }
+        ensures cut { OnErr result (self.new ≡ self.old) }
+        ensures ended { IfOk result (λ field. IfNone field (self.new ≡ self.old)) }
     {
-        let bytes = self.bytes;
         let place = self.at;
-        if place >= bytes.len() {
-            return Piece::End;
+        match self.bytes.get(place..) {
+            None | Some([]) => Ok(None),
+            Some([tag, high, low, behind @ ..]) => {
+                let length = usize::from(u16::from_be_bytes([*high, *low]));
+                let body = behind.get(..length).ok_or(Cut { place })?;
+                self.at = place + 3 + length;
+                Ok(Some(Field {
+                    place,
+                    tag: *tag,
+                    body,
+                }))
+            }
+            Some(_) => Err(Cut { place }),
         }
-        if bytes.len() - place < 3 {
-            return Piece::Cut(place);
-        }
-        let body = place + 3;
-        let length = told_length(bytes, place);
-        if bytes.len() - body < length {
-            return Piece::Cut(place);
-        }
-        let end = body + length;
-        self.at = end;
-        Piece::Whole(Field {
-            place,
-            tag: bytes[place],
-            body: &bytes[body..end],
-        })
     }
 }

@@ -1,5 +1,5 @@
 -- Tokens as the marks that they are.
-use Rattle.std.specs.Prelude.{ℕ, cond, List, [], drop, Ok, Result}
+use Rattle.std.specs.Prelude.{ℕ, cond, List, [], drop, Ok, Result, Option, Some, None}
 use Rattle.refusal.specs.Answers.{Said}
 use Rattle.grammar.specs.Marks.{Mark, Placed, mark_of, is_kind, marks_from}
 use Rattle.grammar.specs.Marks.Mark.{verum, falsum, name, negation, finally, globally, opening, conjunction, disjunction, closing, foreign, finish}
@@ -39,3 +39,11 @@ alone x = record { mark = mark_in x.token; place = x.place; rest = [] }
 -- a byte that is neither blank nor letter, as a mark at its place
 abbrev pub mark_at : ℕ → ℕ → Result Mark Said
 mark_at b p = cond (is_kind foreign (mark_of b)) (unexpected p) (Ok (mark_of b))
+
+-- what a mark gives with the marks behind it, or that it is unexpected
+abbrev pub given_or : {T : Type 0} → Option T → ℕ → List Placed → Result (T × List Placed) Said
+given_or None p ms = unexpected p
+given_or (Some x) p ms = Ok (x, ms)
+
+abbrev pub taken_by : {T : Type 0} → (Mark → Option T) → Lexed → Result (T × List Placed) Said
+taken_by test x = given_or (test x.mark) x.place x.rest

@@ -1,5 +1,5 @@
 // From bytes to marks.
-ghost use Rattle.std.specs.Prelude.{◌≡◌, ◌+◌, ◌<◌, ◌≤◌, length, drop, ◌≢◌, slice_index};
+ghost use Rattle.std.specs.Prelude.{◌≡◌, ◌==◌, ◌+◌, ◌≤◌, length, drop};
 ghost use Rattle.std.specs.List.{prefix_len};
 ghost use Rattle.refusal.specs.Answers.{answer};
 ghost use Rattle.names.specs.Names.{wordly};
@@ -8,44 +8,33 @@ ghost use Rattle.grammar.specs.Descent.{lex};
 ghost use Rattle.lexer.specs.Tokens.{mark_in, text_of, remaining, lexed, mark_at};
 
 use crate::token::{Lexeme, Lexer, Token};
-use names::spelling::{is_lower, is_same, is_wordly};
+use names::spelling::{is_lower, is_wordly};
 use refusal::{Cause, Layer, Refusal};
 
 // The place of the first byte from `at` on that is no blank.
 fn skip_blanks(text: &[u8], at: usize) -> usize
-    ensures same { marks_from result 0 (drop result text.now) ≡ marks_from at 0 (drop at text.now) }
-    ensures stops { result < length text.now → slice_index text.now result ≢ 32 }
+    ensures { result ≡ at + prefix_len (λ b. b == 32) (drop at text.now) }
 {
-    let mut place = at;
-    while place < text.len() && text[place] == b' ' {
-        place += 1;
-    }
-    place
+    let blanks = text.iter().skip(at).take_while(|b| **b == b' ');
+    at + blanks.count()
 }
 
-// The place behind the longest run of letters and digits from `at` on.
-fn run_end(text: &[u8], at: usize) -> usize
-    requires { at ≤ length text.now }
-    ensures value { result ≡ at + prefix_len wordly (drop at text.now) }
-    ensures within { result ≤ length text.now }
+// How many letters and digits stand in front.
+fn run_length(bytes: &[u8]) -> usize
+    ensures value { result ≡ prefix_len wordly bytes.now }
+    ensures within { result ≤ length bytes.now }
 {
-    let mut end = at;
-    while end < text.len() && is_wordly(text[end]) {
-        end += 1;
-    }
-    end
+    bytes.iter().take_while(|b| is_wordly(**b)).count()
 }
 
 // The token that a run of letters and digits is.
 fn word(run: &[u8]) -> Token<'_>
     ensures { mark_in result ≡ word_of run.now }
 {
-    if is_same(run, b"tt") {
-        Token::True
-    } else if is_same(run, b"ff") {
-        Token::False
-    } else {
-        Token::Name(run)
+    match run {
+        b"tt" => Token::True,
+        b"ff" => Token::False,
+        _ => Token::Name(run),
     }
 }
 
@@ -80,16 +69,15 @@ impl<'a> Lexer<'a> {
     {
         let text = self.text;
         let place = skip_blanks(text, self.at);
-        if place >= text.len() {
+        let Some(first) = text.get(place) else {
             self.at = place;
             return Ok(Lexeme {
                 token: Token::End,
                 place: text.len(),
             });
-        }
-        let first = text[place];
-        if is_lower(first) {
-            let end = run_end(text, place + 1);
+        };
+        if is_lower(*first) {
+            let end = place + run_length(&text[place..]);
             self.at = end;
             return Ok(Lexeme {
                 token: word(&text[place..end]),
@@ -97,7 +85,7 @@ impl<'a> Lexer<'a> {
             });
         }
         self.at = place + 1;
-        let token = mark(first, place)?;
+        let token = mark(*first, place)?;
         Ok(Lexeme { token, place })
     }
 }

@@ -51,12 +51,9 @@ fn print_round(
 
 fn print_rounds(rt: &HostRuntime, sheet: &Sheet, bytes: &[u8]) -> anyhow::Result<()> {
     let mut row = vec![in rt.alloc(); 0u32; LONGEST_ROUND]?;
-    let mut rounds = sheet.rounds(bytes);
-    let mut number = 0usize;
-    while let Some(round) = rounds.next() {
-        number = number.saturating_add(1);
+    for (k, round) in sheet.rounds(bytes).enumerate() {
         let verdict = satisfies(&sheet.rule, round.lead, round.cycle, row.as_mut_slice());
-        print_round(rt, number, verdict)?;
+        print_round(rt, k + 1, verdict)?;
     }
     Ok(())
 }

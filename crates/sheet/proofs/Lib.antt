@@ -1,3 +1,4 @@
+pub mod Few
 pub mod Steps
 pub mod Tags
 pub mod Content

@@ -1,11 +1,9 @@
 // The sheet that the office writes: names, a rule, and rounds, as a row of fields.
 #![tactic(auto)]
 
-pub mod letters;
 pub mod order;
 pub mod reading;
 pub mod turns;
 pub mod view;
 
-pub use letters::{Letters, Rounds};
-pub use view::Sheet;
+pub use view::{Rounds, Sheet};

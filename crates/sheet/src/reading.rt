@@ -11,12 +11,15 @@ ghost use Rattle.sheet.specs.Layout.{after, may_end, ordered, orderly};
 ghost use Rattle.sheet.specs.Laws.{BySheet};
 ghost use Rattle.sheet.specs.Contents.{fronted, front_seen, sheet_read, sheet_seen};
 
-use crate::order::Due;
+use crate::order::{Due, Kind};
 use crate::view::Sheet;
-use fields::{Fields, Piece};
+use fields::{Field, Fields};
 use names::Names;
 use refusal::{Cause, Layer, Refusal};
 use rule::Rule;
+
+// The most bytes of a sheet.
+const MOST_BYTES: usize = 8192;
 
 fn misplaced(place: usize) -> Refusal
     ensures { result ≡ record { cause = BadField; layer = AtSheet; place = place } }
@@ -25,27 +28,27 @@ fn misplaced(place: usize) -> Refusal
 }
 
 impl Due {
-    // What is due behind a field with this tag at this place.
-    fn after(self, tag: u8, place: usize) -> Result<Due, Refusal>
-        ensures { answer (λ d. d) result ≡ after self tag place }
+    // What is due behind a field.
+    fn after(self, field: Field) -> Result<Due, Refusal>
+        ensures { answer (λ d. d) result ≡ after self field.entry.tag field.entry.place }
     {
-        match (self, tag) {
-            (Due::NameOrRule, 1) => Ok(Due::NameOrRule),
-            (Due::NameOrRule, 2) => Ok(Due::LeadIn),
-            (Due::LeadIn, 3) => Ok(Due::Cycle),
-            (Due::Cycle, 4) => Ok(Due::LeadIn),
-            _ => Err(misplaced(place)),
+        match (self, Kind::try_from(field.tag)) {
+            (Due::NameOrRule, Ok(Kind::Name)) => Ok(Due::NameOrRule),
+            (Due::NameOrRule, Ok(Kind::Rule)) => Ok(Due::LeadIn),
+            (Due::LeadIn, Ok(Kind::LeadIn)) => Ok(Due::Cycle),
+            (Due::Cycle, Ok(Kind::Cycle)) => Ok(Due::LeadIn),
+            _ => Err(misplaced(field.place)),
         }
     }
-}
 
-// Whether the sheet may end at its end.
-fn end_at(due: Due, stop: usize) -> Result<(), Refusal>
-    ensures { answer (λ u. u) result ≡ may_end due stop }
-{
-    match due {
-        Due::LeadIn => Ok(()),
-        Due::NameOrRule | Due::Cycle => Err(misplaced(stop)),
+    // Whether the sheet may end at its end.
+    fn end(self, stop: usize) -> Result<(), Refusal>
+        ensures { answer (λ u. u) result ≡ may_end self stop }
+    {
+        match self {
+            Due::LeadIn => Ok(()),
+            Due::NameOrRule | Due::Cycle => Err(misplaced(stop)),
+        }
     }
 }
 
@@ -55,20 +58,17 @@ fn check_fields(bytes: &[u8]) -> Result<(), Refusal>
 {
     let mut fields = Fields::new(bytes);
     let mut due = Due::NameOrRule;
-    loop {
-        match fields.next() {
-            Piece::Whole(field) => due = due.after(field.tag, field.place)?,
-            Piece::Cut(place) => return Err(misplaced(place)),
-            Piece::End => return end_at(due, bytes.len()),
-        }
+    while let Some(field) = fields.next().map_err(|cut| misplaced(cut.place))? {
+        due = due.after(field)?;
     }
+    due.end(bytes.len())
 }
 
 fn check_order(bytes: &[u8]) -> Result<(), Refusal>
     ensures { answer (λ u. u) result ≡ ordered bytes.now }
 {
-    if bytes.len() > 8192 {
-        return Err(misplaced(8192));
+    if bytes.len() > MOST_BYTES {
+        return Err(misplaced(MOST_BYTES));
     }
     check_fields(bytes)
 }
@@ -78,19 +78,13 @@ fn read_front<'a>(fields: &mut Fields<'a>, names: &mut Names) -> Result<&'a [u8]
     ensures outcome { answer (front_seen fields.new names.new) result ≡ fronted (length (bytes_of fields.old)) (spelled_names names.old) (remaining fields.old) }
     ensures same { bytes_of fields.new ≡ bytes_of fields.old }
 {
-    let stop = fields.bytes.len();
-    loop {
-        match fields.next() {
-            Piece::Whole(field) => {
-                if field.tag != 1 {
-                    return Ok(field.body);
-                }
-                names.declare(field.body)?;
-            }
-            Piece::Cut(place) => return Err(misplaced(place)),
-            Piece::End => return Err(misplaced(stop)),
+    while let Some(field) = fields.next().map_err(|cut| misplaced(cut.place))? {
+        match Kind::try_from(field.tag) {
+            Ok(Kind::Name) => names.declare(field.body)?,
+            _ => return Ok(field.body),
         }
     }
+    Err(misplaced(fields.bytes.len()))
 }
 
 impl Sheet {

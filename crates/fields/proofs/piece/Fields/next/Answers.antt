@@ -1,30 +1,16 @@
-use Rattle.std.proofs.Common.{◌≡◌, ◌+◌, ◌-◌, ◌≤◌, length, get_or, take, drop, sym, refl, ap, ◌∙◌, arith}
-use Rattle.fields.specs.Pieces.{parts_from}
-use Rattle.fields.specs.Walked.{bytes_of, next}
-use Rattle.fields.specs.Walked.Met.{took}
-use Rattle.fields.proofs.Stretch.{parts_end, parts_cut, parts_whole}
+use Rattle.std.proofs.Common.{length, ◌∙◌, ◌≡◌, ◌≤◌, ◌+◌, take, drop, arith, rules}
+use Rattle.std.proofs.lemmas.Grind.{common_steps}
+use Rattle.std.proofs.lemmas.List.{take_rest}
+use Rattle.fields.specs.Walked.{bytes_of}
+use Rattle.fields.proofs.Stretch.{field_next}
 use Rattle.fields.proofs.piece.Fields.next.Goals as goal
 
-pub returns-then-place-bytes : goal.returns-then-place-bytes
-returns-then-place-bytes c =
+pub returns-in_ok-body-in-Some-len3-up-clause-outcome : goal.returns-in_ok-body-in-Some-len3-up-clause-outcome
+returns-in_ok-body-in-Some-len3-up-clause-outcome c =
     let f = c.args.self.now in
-    record { outcome = sym (ap next (parts_end (bytes_of f) f.at c.if-place-bytes.true)); same = refl }
-
-pub returns-then-bytes-place-lt3 : goal.returns-then-bytes-place-lt3
-returns-then-bytes-place-lt3 c =
-    let f = c.args.self.now in
-    record { outcome = sym (ap next (parts_cut (bytes_of f) f.at c.if-place-bytes.false (omega arith))); same = refl }
-
-pub returns-then-bytes-body : goal.returns-then-bytes-body
-returns-then-bytes-body c =
-    let f = c.args.self.now in
-    record { outcome = sym (ap next (parts_cut (bytes_of f) f.at c.if-place-bytes.false (omega (arith, c.told_length-length.ensures.value)))); same = refl }
-
-pub returns : goal.returns
-returns c =
-    let f = c.args.self.now in
-    let n = c.told_length-length.result in
-    let whole-body : f.at + 3 + n - (f.at + 3) ≡ n = omega arith in
-    let part = ap (λ k. took f.at (get_or (bytes_of f) f.at 0) (take k (drop (f.at + 3) (bytes_of f))) (parts_from (f.at + 3 + n) 0 (drop (f.at + 3 + n) (bytes_of f)))) whole-body in
-    let fits : f.at + 3 + n ≤ length (bytes_of f) = omega arith in
-    record { outcome = part ∙ sym (ap next (parts_whole (bytes_of f) f.at c.if-place-bytes.false n c.told_length-length.ensures.value fits)); same = refl }
+    let rest = c.in-Some-len3-up.field-0.now in
+    let body = c.in_ok-body-in-Some-len3-up.body.now in
+    let long : 3 + c.from-length.result ≤ length rest = search (rules, common_steps) in
+    let own : body ≡ take c.from-length.result (drop 3 rest) = grind (arith, common_steps) in
+    field_next (bytes_of f) f.at c.from-length.result rest body
+    (c.in-Some-len3-up.ensures.lookup.0.2 ∙ take_rest (bytes_of f) f.at) long (c.from-length.ensures ∙ c.from_be_bytes.ensures) own

@@ -1,52 +1,42 @@
-use Rattle.std.proofs.Common.{◌+◌, length, drop, sym, refl, ap, ◌∙◌}
+use Rattle.std.proofs.Common.{◌+◌, length, drop, ap, ◌∙◌}
+use Rattle.std.specs.List.{prefix_len}
+use Rattle.std.proofs.lemmas.List.{take_rest}
+use Rattle.names.specs.Names.{wordly}
 use Rattle.refusal.specs.Answers.{and_then}
 use Rattle.refusal.proofs.Exits.{handed_on}
 use Rattle.grammar.specs.Marks.{marks_from}
-use Rattle.grammar.specs.Marks.Mark.{finish}
-use Rattle.grammar.proofs.Scan.{scan_end}
-use Rattle.lexer.specs.Tokens.{text_of, remaining, lexed}
+use Rattle.lexer.specs.Tokens.{text_of, lexed}
 use Rattle.lexer.proofs.Lexing.{as_lexed, lex_end, lex_mark, lex_word}
 use Rattle.lexer.proofs.token.Lexer.next.Goals as goal
 
-pub returns-then-place-text : goal.returns-then-place-text
-returns-then-place-text c =
+pub returns-in_default-clause-outcome : goal.returns-in_default-clause-outcome
+returns-in_default-clause-outcome c =
     let t = text_of c.args.self.now in
-    let skip = c.skip_blanks-place in
-    record { outcome = ap (λ ms. as_lexed (length t) ms finish) (scan_end t skip.result c.if-place-text.true) ∙ sym (lex_end t (remaining c.args.self.now) skip.result (length t) skip.ensures.same c.if-place-text.true); same = refl }
+    lex_end t c.args.self.now.at c.skip_blanks-place.result (length t) c.skip_blanks-place.ensures c.in_default.ensures.lookup.3
 
-pub returns-then-is_lower : goal.returns-then-is_lower
-returns-then-is_lower c =
+pub returns-then-is_lower-clause-outcome : goal.returns-then-is_lower-clause-outcome
+returns-then-is_lower-clause-outcome c =
     let t = text_of c.args.self.now in
-    let skip = c.skip_blanks-place in
-    let end = c.run_end-end in
-    record {
-      outcome =
-          ap (as_lexed skip.result (marks_from end.result 0 (drop end.result t))) c.word.ensures
-          ∙ sym (lex_word t (remaining c.args.self.now) skip.result (length t) skip.ensures.same c.if-place-text.false (skip.ensures.stops c.if-place-text.false) (sym c.if-is_lower.ensures) end.result end.ensures.value);
-      same = refl;
-    }
+    let place = c.skip_blanks-place.result in
+    let first = c.in-Some.ensures.lookup.3 in
+    ap (as_lexed place (marks_from (place + c.run_length.result) 0 (drop (place + c.run_length.result) t))) c.word.ensures
+    ∙ lex_word t c.args.self.now.at place (length t) c.skip_blanks-place.ensures c.in-Some.first.now first.0 (first.1 0) c.if-is_lower.ensures c.run_length.result (c.run_length.ensures.value ∙ ap (prefix_len wordly) (take_rest t place))
 
-pub returns-in_err-token : goal.returns-in_err-token
-returns-in_err-token c =
+pub returns-in_err-token-clause-outcome : goal.returns-in_err-token-clause-outcome
+returns-in_err-token-clause-outcome c =
     let t = text_of c.args.self.now in
-    let skip = c.skip_blanks-place in
-    let rest = marks_from (skip.result + 1) 0 (drop (skip.result + 1) t) in
-    record {
-      outcome =
-          handed_on c.in_err-token.field-0.0 (lexed (record { text = c.args.self.now.text; at = skip.result + 1 })) c.from_residual.result c.from_residual.ensures.1
-          ∙ ap (λ r. and_then r (as_lexed skip.result rest)) c.in_err-token.ensures
-          ∙ sym (lex_mark t (remaining c.args.self.now) skip.result (length t) skip.ensures.same c.if-place-text.false (skip.ensures.stops c.if-place-text.false) (sym c.if-is_lower.ensures));
-      same = refl;
-    }
+    let place = c.skip_blanks-place.result in
+    let first = c.in-Some.ensures.lookup.3 in
+    let rest = marks_from (place + 1) 0 (drop (place + 1) t) in
+    handed_on c.in_err-token.field-0.0 (lexed (record { text = c.args.self.now.text; at = place + 1 })) c.from_residual.result c.from_residual.ensures.1
+    ∙ ap (λ r. and_then r (as_lexed place rest)) c.in_err-token.ensures
+    ∙ lex_mark t c.args.self.now.at place (length t) c.skip_blanks-place.ensures c.in-Some.first.now first.0 (first.1 0) c.if-is_lower.ensures
 
-pub returns : goal.returns
-returns c =
+pub returns-clause-outcome : goal.returns-clause-outcome
+returns-clause-outcome c =
     let t = text_of c.args.self.now in
-    let skip = c.skip_blanks-place in
-    let rest = marks_from (skip.result + 1) 0 (drop (skip.result + 1) t) in
-    record {
-      outcome =
-          ap (λ r. and_then r (as_lexed skip.result rest)) c.in_ok-token.ensures
-          ∙ sym (lex_mark t (remaining c.args.self.now) skip.result (length t) skip.ensures.same c.if-place-text.false (skip.ensures.stops c.if-place-text.false) (sym c.if-is_lower.ensures));
-      same = refl;
-    }
+    let place = c.skip_blanks-place.result in
+    let first = c.in-Some.ensures.lookup.3 in
+    let rest = marks_from (place + 1) 0 (drop (place + 1) t) in
+    ap (λ r. and_then r (as_lexed place rest)) c.in_ok-token.ensures
+    ∙ lex_mark t c.args.self.now.at place (length t) c.skip_blanks-place.ensures c.in-Some.first.now first.0 (first.1 0) c.if-is_lower.ensures
