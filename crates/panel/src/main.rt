@@ -3,6 +3,7 @@
 
 use evaluate::satisfies;
 use refusal::Refusal;
+use round::Round;
 use rule::Rule;
 use sheet::Sheet;
 use std::io::Read;
@@ -55,7 +56,11 @@ fn print_rounds(rt: &HostRuntime, sheet: &Sheet, bytes: &[u8]) -> anyhow::Result
     let mut number = 0usize;
     while let Some(round) = rounds.next() {
         number = number.saturating_add(1);
-        let verdict = satisfies(&sheet.rule, round.lead, round.cycle, row.as_mut_slice());
+        let letters = Round {
+            lead: round.lead,
+            cycle: round.cycle,
+        };
+        let verdict = satisfies(&sheet.rule, letters, row.as_mut_slice());
         print_round(rt, number, verdict)?;
     }
     Ok(())
