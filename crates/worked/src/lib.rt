@@ -1,9 +1,13 @@
 // What the programs share: reading names, rules and letters as their tables write them, and a rule's written text.
 #![tactic(auto)]
 
-ghost use Rattle.std.specs.Prelude.{◌≡◌, ◌<◌, [], codes, if◌then◌else◌, IfOk, nat_lt, length, string_bytes};
+ghost use Rattle.std.specs.Prelude.{◌≡◌, [], codes, if◌then◌else◌, IfOk, length, string_bytes};
 ghost use Rattle.hex.specs.Hex.{decode_of};
-ghost use Rattle.refusal.specs.Answers.{answer};
+ghost use Rattle.refusal.specs.Answers.{answer, and_then};
+ghost use Rattle.grammar.specs.Descent.{reading};
+ghost use Rattle.names.specs.Listed.{spelled_names};
+ghost use Rattle.worked.specs.Tables.{declared_all, listed};
+ghost use Rattle.rule.specs.Rules.{nodes_in, names_in};
 ghost use Rattle.rule.specs.Written.{word_in, writing};
 
 use names::Names;
@@ -12,7 +16,9 @@ use rule::Rule;
 use std::alloc::Allocator;
 
 // Names with commas between them; an empty text has none.
-pub fn declare(words: &str) -> Result<Names, Refusal> {
+pub fn declare(words: &str) -> Result<Names, Refusal>
+    ensures { answer spelled_names result ≡ declared_all [] (listed words.now) }
+{
     let mut names = Names::none();
     if words.is_empty() {
         return Ok(names);
@@ -24,7 +30,10 @@ pub fn declare(words: &str) -> Result<Names, Refusal> {
 }
 
 // The rule that a text spells under such names.
-pub fn read_rule(words: &str, text: &str) -> Result<Rule, Refusal> {
+pub fn read_rule(words: &str, text: &str) -> Result<Rule, Refusal>
+    ensures outcome { answer nodes_in result ≡ and_then (declared_all [] (listed words.now)) (λ names. reading names text.now) }
+    ensures names { IfOk result (λ rule. declared_all [] (listed words.now) ≡ Ok (names_in rule)) }
+{
     let names = declare(words)?;
     Rule::read(&names, text.as_bytes())
 }
