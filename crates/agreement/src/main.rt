@@ -5,14 +5,21 @@
 use acceptor::{Acceptor, Judgement};
 use anyhow::{Context, anyhow};
 use evaluate::satisfies;
-use names::Names;
 use refusal::Refusal;
+use round::Round;
 use rule::Rule;
 use translate::{RuleAcceptor, State};
 use turning::TurnedState;
 use verdicts::{judge_bare, judge_turned};
+use worked::{bytes_of, read_rule, written, yes_or_no};
 
 const TRAIL: usize = 256;
+
+// The longest written rule.
+const LONGEST_RULE: usize = 1024;
+
+// The most letters of a round.
+const LONGEST_ROUND: usize = 1024;
 
 fn print_refusal(rt: &HostRuntime, refusal: Refusal) -> anyhow::Result<()> {
     let number = refusal.cause.number();
@@ -24,8 +31,10 @@ fn print_refusal(rt: &HostRuntime, refusal: Refusal) -> anyhow::Result<()> {
 fn print_straight(rt: &HostRuntime, verdict: Result<bool, Refusal>) -> anyhow::Result<()> {
     print!(rt; "straight ")?;
     match verdict {
-        Ok(true) => Ok(print!(rt; "yes")?),
-        Ok(false) => Ok(print!(rt; "no")?),
+        Ok(verdict) => {
+            let word = yes_or_no(verdict);
+            Ok(print!(rt; "{word}")?)
+        }
         Err(refusal) => print_refusal(rt, refusal),
     }
 }
@@ -45,80 +54,33 @@ fn print_judged(
     }
 }
 
-fn declare(words: &str) -> Result<Names, Refusal> {
-    let mut names = Names::none();
-    if words.is_empty() {
-        return Ok(names);
-    }
-    for word in words.split(',') {
-        names.declare(word.as_bytes())?;
-    }
-    Ok(names)
-}
-
 // A rule that the table takes for granted is read, or what it was refused with is the program's end.
 fn rule_of(line: &str) -> anyhow::Result<Rule> {
     let (words, text) = line.split_once(':').context("a rule wants names:text")?;
-    let Ok(names) = declare(words) else {
-        return Err(anyhow!("the names are refused"));
-    };
-    match Rule::read(&names, text.as_bytes()) {
+    match read_rule(words, text) {
         Ok(rule) => Ok(rule),
         Err(_) => Err(anyhow!("the rule is refused")),
     }
 }
 
 fn print_rule(rt: &HostRuntime, rule: &Rule) -> anyhow::Result<()> {
-    let mut text = [0; 1024];
     let pairs = RuleAcceptor::new(rule).pairs();
-    match rule.write(&mut text) {
-        Ok(length) => {
-            let written = std::str::from_utf8(text.get(0..length).unwrap_or(&[]))?;
-            Ok(println!(rt; "rule {written} pairs {pairs}")?)
-        }
+    match written(rt.alloc(), rule, LONGEST_RULE)? {
+        Ok(text) => Ok(println!(rt; "rule {text} pairs {pairs}")?),
         Err(refusal) => print_refusal(rt, refusal),
     }
 }
 
-fn digit(b: u8) -> u8 {
-    match b {
-        b'0'..=b'9' => b - b'0',
-        b'a'..=b'f' => b - b'a' + 10,
-        _ => 0,
-    }
-}
-
-// Letters written in hexadecimal.
-fn letters_of(rt: &HostRuntime, hex: &str) -> anyhow::Result<Vec<u8>> {
-    let mut letters = Vec::new(rt.alloc());
-    for pair in hex.as_bytes().chunks_exact(2) {
-        if let [high, low] = pair {
-            letters.push(digit(*high).wrapping_mul(16).wrapping_add(digit(*low)))?;
-        }
-    }
-    Ok(letters)
-}
-
-fn print_bare(
-    rt: &HostRuntime,
-    acceptor: &RuleAcceptor,
-    lead: &[u8],
-    cycle: &[u8],
-) -> anyhow::Result<()> {
+fn print_bare(rt: &HostRuntime, acceptor: &RuleAcceptor, round: Round<'_>) -> anyhow::Result<()> {
     let mut trail = vec![in rt.alloc(); State::Start; TRAIL]?;
     print_judged(
         rt,
         "bare",
-        judge_bare(acceptor, lead, cycle, trail.as_mut_slice()),
+        judge_bare(acceptor, round.lead, round.cycle, trail.as_mut_slice()),
     )
 }
 
-fn print_turned(
-    rt: &HostRuntime,
-    acceptor: &RuleAcceptor,
-    lead: &[u8],
-    cycle: &[u8],
-) -> anyhow::Result<()> {
+fn print_turned(rt: &HostRuntime, acceptor: &RuleAcceptor, round: Round<'_>) -> anyhow::Result<()> {
     let unused = TurnedState {
         inner: State::Start,
         turns: [0; 16],
@@ -127,23 +89,24 @@ fn print_turned(
     print_judged(
         rt,
         "turned",
-        judge_turned(acceptor, lead, cycle, trail.as_mut_slice()),
+        judge_turned(acceptor, round.lead, round.cycle, trail.as_mut_slice()),
     )
 }
 
 // LEAD-IN:CYCLE, judged by the rule above it
 fn check_round(rt: &HostRuntime, rule: &Rule, line: &str) -> anyhow::Result<()> {
     let (lead, cycle) = line.split_once(':').context("a round wants lead-in:cycle")?;
-    let lead = letters_of(rt, lead)?;
-    let cycle = letters_of(rt, cycle)?;
-    let mut row = vec![in rt.alloc(); 0u32; 1024]?;
-    print_straight(
-        rt,
-        satisfies(rule, lead.as_slice(), cycle.as_slice(), row.as_mut_slice()),
-    )?;
+    let lead = bytes_of(rt.alloc(), lead)?;
+    let cycle = bytes_of(rt.alloc(), cycle)?;
+    let round = Round {
+        lead: lead.as_slice(),
+        cycle: cycle.as_slice(),
+    };
+    let mut row = vec![in rt.alloc(); 0u32; LONGEST_ROUND]?;
+    print_straight(rt, satisfies(rule, round, row.as_mut_slice()))?;
     let acceptor = RuleAcceptor::new(rule);
-    print_bare(rt, &acceptor, lead.as_slice(), cycle.as_slice())?;
-    print_turned(rt, &acceptor, lead.as_slice(), cycle.as_slice())?;
+    print_bare(rt, &acceptor, round)?;
+    print_turned(rt, &acceptor, round)?;
     Ok(println!(rt; "")?)
 }
 

@@ -3,10 +3,11 @@
 
 use anyhow::{Context, anyhow};
 use evaluate::satisfies;
-use names::Names;
 use refusal::Refusal;
+use round::Round;
 use rule::Rule;
 use sheet::Sheet;
+use worked::{bytes_of, declare, read_rule, written, yes_or_no};
 
 fn print_refusal(rt: &HostRuntime, refusal: Refusal) -> anyhow::Result<()> {
     let number = refusal.cause.number();
@@ -18,26 +19,10 @@ fn print_refusal(rt: &HostRuntime, refusal: Refusal) -> anyhow::Result<()> {
 
 // A rule, written into an output with this much room.
 fn print_rule(rt: &HostRuntime, rule: &Rule, room: usize) -> anyhow::Result<()> {
-    let mut text = vec![in rt.alloc(); 0u8; room]?;
-    match rule.write(text.as_mut_slice()) {
-        Ok(length) => {
-            let written = std::str::from_utf8(text.as_slice().get(0..length).unwrap_or(&[]))?;
-            println!(rt; "rule {written}")?;
-            Ok(())
-        }
+    match written(rt.alloc(), rule, room)? {
+        Ok(text) => Ok(println!(rt; "rule {text}")?),
         Err(refusal) => print_refusal(rt, refusal),
     }
-}
-
-fn declare(words: &str) -> Result<Names, Refusal> {
-    let mut names = Names::none();
-    if words.is_empty() {
-        return Ok(names);
-    }
-    for word in words.split(',') {
-        names.declare(word.as_bytes())?;
-    }
-    Ok(names)
 }
 
 // NAMES alone
@@ -55,11 +40,7 @@ fn check_names(rt: &HostRuntime, words: &str) -> anyhow::Result<()> {
 // NAMES:TEXT
 fn check_rule(rt: &HostRuntime, line: &str, room: usize) -> anyhow::Result<()> {
     let (words, text) = line.split_once(':').context("a rule wants names:text")?;
-    let names = match declare(words) {
-        Ok(names) => names,
-        Err(refusal) => return print_refusal(rt, refusal),
-    };
-    match Rule::read(&names, text.as_bytes()) {
+    match read_rule(words, text) {
         Ok(rule) => print_rule(rt, &rule, room),
         Err(refusal) => print_refusal(rt, refusal),
     }
@@ -69,25 +50,6 @@ fn check_rule(rt: &HostRuntime, line: &str, room: usize) -> anyhow::Result<()> {
 fn check_room(rt: &HostRuntime, line: &str) -> anyhow::Result<()> {
     let (room, rest) = line.split_once(' ').context("room wants a number")?;
     check_rule(rt, rest, room.parse::<usize>()?)
-}
-
-fn digit(b: u8) -> u8 {
-    match b {
-        b'0'..=b'9' => b - b'0',
-        b'a'..=b'f' => b - b'a' + 10,
-        _ => 0,
-    }
-}
-
-// Bytes written in hexadecimal.
-fn bytes_of(rt: &HostRuntime, hex: &str) -> anyhow::Result<Vec<u8>> {
-    let mut bytes = Vec::new(rt.alloc());
-    for pair in hex.as_bytes().chunks_exact(2) {
-        if let [high, low] = pair {
-            bytes.push(digit(*high).wrapping_mul(16).wrapping_add(digit(*low)))?;
-        }
-    }
-    Ok(bytes)
 }
 
 fn print_sheet(rt: &HostRuntime, bytes: &[u8]) -> anyhow::Result<()> {
@@ -129,28 +91,27 @@ fn check_round(rt: &HostRuntime, line: &str) -> anyhow::Result<()> {
     let (lead, rest) = rest.split_once(' ').context("round wants a lead-in")?;
     let (cycle, rest) = rest.split_once(' ').context("round wants a cycle")?;
     let (words, text) = rest.split_once(':').context("round wants names:text")?;
-    let names = match declare(words) {
-        Ok(names) => names,
-        Err(refusal) => return print_refusal(rt, refusal),
-    };
-    let rule = match Rule::read(&names, text.as_bytes()) {
+    let rule = match read_rule(words, text) {
         Ok(rule) => rule,
         Err(refusal) => return print_refusal(rt, refusal),
     };
     // what the row holds before must not matter
     let mut row = vec![in rt.alloc(); u32::MAX; row.parse::<usize>()?]?;
-    let lead = bytes_of(rt, lead)?;
-    let cycle = bytes_of(rt, cycle)?;
-    print_verdict(
-        rt,
-        satisfies(&rule, lead.as_slice(), cycle.as_slice(), row.as_mut_slice()),
-    )
+    let lead = bytes_of(rt.alloc(), lead)?;
+    let cycle = bytes_of(rt.alloc(), cycle)?;
+    let round = Round {
+        lead: lead.as_slice(),
+        cycle: cycle.as_slice(),
+    };
+    print_verdict(rt, satisfies(&rule, round, row.as_mut_slice()))
 }
 
 fn print_verdict(rt: &HostRuntime, verdict: Result<bool, Refusal>) -> anyhow::Result<()> {
     match verdict {
-        Ok(true) => Ok(println!(rt; "yes")?),
-        Ok(false) => Ok(println!(rt; "no")?),
+        Ok(verdict) => {
+            let word = yes_or_no(verdict);
+            Ok(println!(rt; "{word}")?)
+        }
         Err(refusal) => print_refusal(rt, refusal),
     }
 }
@@ -162,9 +123,9 @@ fn check_line(rt: &HostRuntime, line: &str) -> anyhow::Result<()> {
         "rule" => check_rule(rt, rest, 1024),
         "room" => check_room(rt, rest),
         "round" => check_round(rt, rest),
-        "sheet" => print_sheet(rt, bytes_of(rt, rest)?.as_slice()),
-        "cuts" => check_cuts(rt, bytes_of(rt, rest)?.as_slice()),
-        "flips" => check_flips(rt, bytes_of(rt, rest)?),
+        "sheet" => print_sheet(rt, bytes_of(rt.alloc(), rest)?.as_slice()),
+        "cuts" => check_cuts(rt, bytes_of(rt.alloc(), rest)?.as_slice()),
+        "flips" => check_flips(rt, bytes_of(rt.alloc(), rest)?),
         _ => Err(anyhow!("no such kind")),
     }
 }

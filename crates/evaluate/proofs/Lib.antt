@@ -1,4 +1,2 @@
-pub mod Bits
 pub mod Marking
 pub mod Truths
-pub mod Ready

@@ -1,7 +1,7 @@
 // Whether a round satisfies a rule, from the two alone.
 #![tactic(auto)]
 
-pub mod row;
+mod subformula;
 pub mod verdict;
 
 pub use verdict::satisfies;

@@ -52,7 +52,7 @@ fn print_round(
 fn print_rounds(rt: &HostRuntime, sheet: &Sheet, bytes: &[u8]) -> anyhow::Result<()> {
     let mut row = vec![in rt.alloc(); 0u32; LONGEST_ROUND]?;
     for (k, round) in sheet.rounds(bytes).enumerate() {
-        let verdict = satisfies(&sheet.rule, round.lead, round.cycle, row.as_mut_slice());
+        let verdict = satisfies(&sheet.rule, round, row.as_mut_slice());
         print_round(rt, k + 1, verdict)?;
     }
     Ok(())
