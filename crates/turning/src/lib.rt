@@ -11,12 +11,11 @@ pub struct TurnedState<S> {
 }
 
 // The turned machine's pairs have one visit set each; it accepts, and is judged, as the machine is, and keeps the limits that the machine keeps.
-pub fn turning_stands<S>() -> u8
+pub fn turning_stands<S>()
     ensures plain { PlainPairs S }
     ensures accepts { KeepsAcceptance S }
     ensures first { KeepsFirstPair S }
     ensures verdict { KeepsVerdict S }
     ensures limits { KeepsLimits S }
 {
-    0
 }
