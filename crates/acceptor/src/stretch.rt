@@ -6,6 +6,9 @@ ghost use Rattle.acceptor.specs.Walks.{cycle_meets, favours, Crossed, FirstBelow
 
 use crate::traits::Acceptor;
 
+// No pair has more visit sets.
+const MOST_SETS: usize = 15;
+
 // So many cycles from a state.
 #[derive(Drop)]
 pub struct Stretch<'a, A: Acceptor> {
@@ -50,10 +53,10 @@ impl<A: Acceptor> Stretch<'_, A> {
         ensures { result ≡ favours (machine (A.Course.moves self.now.acceptor.now) (A.Acceptor.judges self.now.acceptor.now))
             self.now.from self.now.cycle.now self.now.cycles pair }
     {
-        let mut marks = [false; 16];
+        let mut marks = [false; MOST_SETS];
         let met = &mut marks[..self.acceptor.visits(pair)];
         let mut state = self.from;
-        for turn in 0..self.cycles {
+        for _turn in 0..self.cycles {
             match self.cross(pair, state, met) {
                 Some(end) => state = end,
                 None => return false,

@@ -34,7 +34,7 @@ pub fn close<A: Course>(
         (λ l. Closes (turned (A.Course.moves course.now) first cycle.now) trail.new first l.from l.passes) }
 {
     let mut state = first;
-    // Each turn reads all the places up to its own.
+    // Counted by hand, since each turn also reads the places before its own.
     for k in 0..trail.len() {
         trail[k] = state;
         state = after(course, state, cycle);
