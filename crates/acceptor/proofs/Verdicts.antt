@@ -1,25 +1,33 @@
 -- From what a judge finds on its way to the judgement. Assumes nothing.
-use Rattle.std.proofs.Common.{◌≡◌, ℕ, ◌+◌, ◌-◌, ◌<◌, ◌≤◌, true, false, not, List, length, get_or, Ok, sym, ap, ◌∙◌, arith}
+use Rattle.std.proofs.Common.{◌≡◌, ℕ, ◌+◌, ◌-◌, ◌<◌, ◌≤◌, true, false, not, List, length, get_or, Ok, Err, Result, fold, find, Some, None, Option, MatchOption, sym, ap, ◌∙◌, arith}
 use mathlib.Core.Logic.◌⊎◌.{inl, inr}
 use Rattle.std.proofs.lemmas.List.{get_or_read}
 use Rattle.std.proofs.lemmas.Bool.{and_parts, and_from, both_ways, cases_Bool, not-true, not_from_false}
+use Rattle.std.specs.Option.{ok_or}
+use Rattle.std.specs.List.{range_with_len}
 use Rattle.refusal.specs.declared.Layer.TheVariants.{Judge}
 use Rattle.refusal.specs.Answers.{refused}
 use Rattle.ltl.specs.Rounds.{spelling}
 use Rattle.round.specs.Letters.{sound}
 use Rattle.machine.specs.Machines.{Machine}
 use Rattle.machine.specs.Runs.{AcceptedBy}
-use Rattle.machine.specs.Judging.{bound, Passes, Judged, accepted, rejected}
+use Rattle.machine.specs.Judging.{bound, Passes, Judged}
 use Rattle.machine.specs.Judging.Judged.{full, yes_by, no_pair}
 use Rattle.machine.proofs.Looping.{sound_cycle, Favours, decided_pair}
-use Rattle.acceptor.specs.Walks.{along, turned, meets, favours, Apart, Closes, NoneBelow, FirstBelow}
-use Rattle.acceptor.proofs.Walking.{all_each, each_all}
+use Rattle.acceptor.specs.Said.{told_by}
+use Rattle.acceptor.specs.Walks.{turned, meets, favours, Apart, Closes, NoneBelow, FirstBelow}
+use Rattle.acceptor.proofs.Walking.{along_fold, all_each, each_all, found_first}
 use Rattle.acceptor.proofs.Positions.{lead_run, turned_run, meets_found, meets_at, meets_none}
+
+-- the error that stands in for a missing value
+pub or_error : {T E : Type 0} (o : Option T) {e x : E} → ◌≡◌ {A = Result T E} (Err x) (ok_or o e) → o ≡ None → x ≡ e
+or_error None v p = cc
+or_error (Some t) v p = cc
 
 -- what a judge knows once the round is found sound: the machine's names and start, and the first state of the trail
 module _ {S : Type 0} (m : Machine S) (lead cycle : List ℕ) {names : ℕ} {start first : S}
     (named : names ≡ m.course.names) (agreed : Ok tt ≡ sound names lead cycle)
-    (started : start ≡ m.course.start) (begun : first ≡ along m.course start lead (length lead)) where
+    (started : start ≡ m.course.start) (begun : first ≡ fold m.course.next start lead) where
   granted : sound m.course.names lead cycle ≡ Ok tt
   granted = ap (λ n. sound n lead cycle) (sym named) ∙ sym agreed
 
@@ -27,7 +35,7 @@ module _ {S : Type 0} (m : Machine S) (lead cycle : List ℕ) {names : ℕ} {sta
   pos = sound_cycle m.course.names lead cycle granted
 
   led : first ≡ bound m lead cycle 0
-  led = begun ∙ ap (λ s. along m.course s lead (length lead)) started ∙ lead_run m.course lead cycle
+  led = begun ∙ ap (λ s. fold m.course.next s lead) started ∙ along_fold m.course m.course.start lead ∙ lead_run m.course lead cycle
 
   -- the states that the walk goes through are those at the cycles' ends
   pub turned_bound : (k : ℕ) → turned m.course first cycle k ≡ bound m lead cycle k
@@ -59,7 +67,7 @@ module _ {S : Type 0} (m : Machine S) (lead cycle : List ℕ) {names : ℕ} {sta
 
       -- cycles in favour of a pair, and what the run says of it
       pub favours_accepted : (pair : ℕ) → pair < m.pairs.count →
-          favours m.course m.pairs s cycle (k - from) pair ≡ true → AcceptedBy m (spelling lead cycle) pair
+          favours m s cycle (k - from) pair ≡ true → AcceptedBy m (spelling lead cycle) pair
       favours_accepted pair l e =
           let h = and_parts (not (meets m.course s cycle (m.pairs.avoids pair) (k - from))) _ e in
           (decided_pair m lead cycle pos from k closed.earlier again pair).1 (record {
@@ -69,7 +77,7 @@ module _ {S : Type 0} (m : Machine S) (lead cycle : List ℕ) {names : ℕ} {sta
                 (all_each (λ set. meets m.course s cycle (m.pairs.visited pair set) (k - from)) (m.pairs.visits pair) h.1 q b);
           })
 
-      pub accepted_favours : (pair : ℕ) → AcceptedBy m (spelling lead cycle) pair → favours m.course m.pairs s cycle (k - from) pair ≡ true
+      pub accepted_favours : (pair : ℕ) → AcceptedBy m (spelling lead cycle) pair → favours m s cycle (k - from) pair ≡ true
       accepted_favours pair a =
           let f = (decided_pair m lead cycle pos from k closed.earlier again pair).0 a in
           and_from _ _ (not_from_false _ (clear f))
@@ -84,16 +92,16 @@ module _ {S : Type 0} (m : Machine S) (lead cycle : List ℕ) {names : ℕ} {sta
             | inr e ↦ e
           ]
 
-      -- the first pair that the stretch favours is the verdict
-      pub first_yes : {places pair : ℕ} → length trail ≡ places →
-          FirstBelow (favours m.course m.pairs s cycle (k - from)) m.pairs.count pair → Judged m lead cycle places (Ok (accepted pair k))
-      first_yes {places} {pair} long f =
-          let fits : k ≤ places = omega (arith, closed.fits) in
-          yes_by pair k granted closed_passes fits (favours_accepted pair f.inside f.passes) (λ q h a. both_ways _ (f.first q h) (accepted_favours q a))
+      -- the first pair that the stretch favours is the verdict; where it favours none, none accepts
+      pub first_told : {places : ℕ} (accepting : Option ℕ) → length trail ≡ places →
+          accepting ≡ find (favours m s cycle (k - from)) (range_with_len 0 m.pairs.count) → Judged m lead cycle places (Ok (told_by accepting k))
+      first_told {places} accepting long e = go accepting (found_first (favours m s cycle (k - from)) m.pairs.count accepting e)
+        where
+          fits : k ≤ places
+          fits = omega (arith, closed.fits)
 
-      -- where it favours none, none accepts
-      pub none_no : {places : ℕ} → length trail ≡ places →
-          NoneBelow (favours m.course m.pairs s cycle (k - from)) m.pairs.count → Judged m lead cycle places (Ok (rejected k))
-      none_no {places} long none =
-          let fits : k ≤ places = omega (arith, closed.fits) in
-          no_pair k granted closed_passes fits (λ q a. both_ways _ (none q a.pair) (accepted_favours q a))
+          go : (o : Option ℕ) → MatchOption o (NoneBelow (favours m s cycle (k - from)) m.pairs.count) (FirstBelow (favours m s cycle (k - from)) m.pairs.count) →
+              Judged m lead cycle places (Ok (told_by o k))
+          go (Some pair) f =
+              yes_by pair k granted closed_passes fits (favours_accepted pair f.inside f.passes) (λ q h a. both_ways _ (f.first q h) (accepted_favours q a))
+          go None none = no_pair k granted closed_passes fits (λ q a. both_ways _ (none q a.pair) (accepted_favours q a))

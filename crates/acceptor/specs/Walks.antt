@@ -1,6 +1,6 @@
 -- Walks of a course over letters and cycles, and what is met on the way.
 use Rattle.std.specs.Prelude.{◌≡◌, ℕ, zero, suc, ◌<◌, ◌≤◌, Bool, true, false, not, ◌&&◌, ◌||◌, List, length, get_or, ◌≢◌, slice_index, slice_index_or}
-use Rattle.machine.specs.Machines.{Course, Pairs}
+use Rattle.machine.specs.Machines.{Course, Machine}
 
 -- the state after the first i letters, from the state s
 abbrev pub along : {S : Type 0} → Course S → S → List ℕ → ℕ → S
@@ -57,18 +57,19 @@ abbrev pub meets : {S : Type 0} → Course S → S → List ℕ → (S → Bool)
 meets c s cycle test n = some (λ t. cycle_meets c (turned c s cycle t) cycle test) n
 
 -- n cycles from s are in favour of a pair: nothing to avoid, and of each visit set a state
-abbrev pub favours : {S : Type 0} → Course S → Pairs S → S → List ℕ → ℕ → ℕ → Bool
-favours c p s cycle n pair = not (meets c s cycle (p.avoids pair) n) && all (λ set. meets c s cycle (p.visited pair set) n) (p.visits pair)
+abbrev pub favours : {S : Type 0} → Machine S → S → List ℕ → ℕ → ℕ → Bool
+favours m s cycle n pair =
+    not (meets m.course s cycle (m.pairs.avoids pair) n) && all (λ set. meets m.course s cycle (m.pairs.visited pair set) n) (m.pairs.visits pair)
 
 -- the first n letters of a cycle from s walked, to the state `end`, with nothing to avoid before it, and the visits up to it noted
-pub record Crossed {S : Type 0} (c : Course S) (p : Pairs S) (pair : ℕ) (s : S) (cycle : List ℕ) (n : ℕ) (before after : List Bool) (end : S) : Type 0 where
-  pub clear : some (λ i. p.avoids pair (along c s cycle i)) n ≡ false
-  pub arrives : end ≡ along c s cycle n
-  pub notes : (set : ℕ) → set < p.visits pair →
-      slice_index_or after set false ≡ (slice_index_or before set false || some (λ i. p.visited pair set (along c s cycle i)) n)
+pub record Crossed {S : Type 0} (m : Machine S) (pair : ℕ) (s : S) (cycle : List ℕ) (n : ℕ) (before after : List Bool) (end : S) : Type 0 where
+  pub clear : some (λ i. m.pairs.avoids pair (along m.course s cycle i)) n ≡ false
+  pub arrives : end ≡ along m.course s cycle n
+  pub notes : (set : ℕ) → set < length before →
+      slice_index_or after set false ≡ (slice_index_or before set false || some (λ i. m.pairs.visited pair set (along m.course s cycle i)) n)
 
 -- n whole cycles walked in the same way, from no marks
-pub record Toured {S : Type 0} (c : Course S) (p : Pairs S) (pair : ℕ) (s : S) (cycle : List ℕ) (n : ℕ) (met : List Bool) (end : S) : Type 0 where
-  pub clear : meets c s cycle (p.avoids pair) n ≡ false
-  pub arrives : end ≡ turned c s cycle n
-  pub notes : (set : ℕ) → set < p.visits pair → slice_index_or met set false ≡ meets c s cycle (p.visited pair set) n
+pub record Toured {S : Type 0} (m : Machine S) (pair : ℕ) (s : S) (cycle : List ℕ) (n : ℕ) (met : List Bool) (end : S) : Type 0 where
+  pub clear : meets m.course s cycle (m.pairs.avoids pair) n ≡ false
+  pub arrives : end ≡ turned m.course s cycle n
+  pub notes : (set : ℕ) → set < length met → slice_index_or met set false ≡ meets m.course s cycle (m.pairs.visited pair set) n

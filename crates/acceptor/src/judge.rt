@@ -6,32 +6,33 @@ ghost use Rattle.acceptor.specs.Said.{told, machine};
 
 use crate::judgement::Judgement;
 use crate::steps::after;
-use crate::stretch::first_favoured;
-use crate::trail::close;
+use crate::stretch::Stretch;
+use crate::trail::{Closed, close};
 use crate::traits::Acceptor;
 use refusal::{Cause, Layer, Refusal};
+use round::Round;
 
 // Judges a round. The trail keeps the states at the ends of the cycles; it is scrap afterwards.
 pub fn judge<A: Acceptor>(
     acceptor: &A,
-    lead: &[u8],
-    cycle: &[u8],
+    round: Round<'_>,
     trail: &mut [A::State],
 ) -> Result<Judgement, Refusal>
     ensures { Judged (machine (A.Course.moves acceptor.now) (A.Acceptor.judges acceptor.now))
-        lead.now cycle.now (length trail.old) (answer told result) }
+        round.entry.lead.now round.entry.cycle.now (length trail.old) (answer told result) }
 {
-    round::check(acceptor.names(), lead, cycle)?;
-    let first = after(acceptor, acceptor.start(), lead);
-    match close(acceptor, first, cycle, trail) {
-        None => Err(Refusal::new(Cause::FullTrail, Layer::Judge, 0)),
-        Some(closed) => {
-            let from = closed.from;
-            let passes = closed.passes;
-            match first_favoured(acceptor, trail[from], cycle, passes - from) {
-                Some(pair) => Ok(Judgement::Accepted { pair, passes }),
-                None => Ok(Judgement::Rejected { passes }),
-            }
-        }
-    }
+    round.check(acceptor.names())?;
+    let first = after(acceptor, acceptor.start(), round.lead);
+    let full = Refusal::new(Cause::FullTrail, Layer::Judge, 0);
+    let Closed { from, passes } = close(acceptor, first, round.cycle, trail).ok_or(full)?;
+    let stretch = Stretch {
+        acceptor,
+        from: trail[from],
+        cycle: round.cycle,
+        cycles: passes - from,
+    };
+    Ok(Judgement {
+        accepting: stretch.first_favoured(),
+        passes,
+    })
 }

@@ -6,25 +6,20 @@ use crate::steps::after;
 use crate::traits::Course;
 
 // State number `passes` is state number `from` again.
-#[derive(Clone, Copy)]
+#[derive(Clone, Copy, Debug, PartialEq, Eq)]
 pub struct Closed {
     pub from: usize,
     pub passes: usize,
 }
 
-// The first of the first `count` places that has the state, or `count` where none has.
-fn place_of<A: Course>(course: &A, state: A::State, trail: &[A::State], count: usize) -> usize
-    requires { count ≤ length trail.now }
-    ensures within { result ≤ count }
-    ensures here { result < count → slice_index_or trail.now result state ≡ state }
-    ensures before { (i : ℕ) → i < result → slice_index_or trail.now i state ≢ state }
+// The first place that has the state.
+fn place_of<A: Course>(course: &A, state: A::State, trail: &[A::State]) -> Option<usize>
+    ensures { MatchOption result
+        ((i : ℕ) → i < length trail.now → slice_index_or trail.now i state ≢ state)
+        (λ k. (k < length trail.now) × (slice_index_or trail.now k state ≡ state)
+        × ((i : ℕ) → i < k → slice_index_or trail.now i state ≢ state)) }
 {
-    for i in 0..count {
-        if course.same(&trail[i], &state) {
-            return i;
-        }
-    }
-    count
+    trail.iter().position(|kept| course.same(kept, &state))
 }
 
 // Walks cycle after cycle from the first state, and keeps the state at the start of each, until one is met again or the trail is full.
@@ -39,11 +34,11 @@ pub fn close<A: Course>(
         (λ l. Closes (turned (A.Course.moves course.now) first cycle.now) trail.new first l.from l.passes) }
 {
     let mut state = first;
+    // Counted by hand, since each turn also reads the places before its own.
     for k in 0..trail.len() {
         trail[k] = state;
         state = after(course, state, cycle);
-        let from = place_of(course, state, trail, k + 1);
-        if from <= k {
+        if let Some(from) = place_of(course, state, &trail[..=k]) {
             return Some(Closed {
                 from,
                 passes: k + 1,

@@ -22,7 +22,7 @@ pub trait Course {
         ensures value { result ≡ (moves self.now).next state.now letter }
         ensures low { result ≡ (moves self.now).next state.now (letter % 2 ^ (moves self.now).names) };
 
-    // Whether two states are the same.
+    // Whether two states are the same. The `==` of a type parameter could find unlike states equal.
     fn same(&self, a: &Self::State, b: &Self::State) -> bool
         ensures { Decides result (a.now ≡ b.now) };
 }

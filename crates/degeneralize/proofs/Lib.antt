@@ -1,3 +1,2 @@
-pub mod Moving
-pub mod Equal
 pub mod Granting
+pub mod Moving

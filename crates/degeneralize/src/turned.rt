@@ -4,12 +4,10 @@ ghost use Rattle.refusal.specs.Answers.{answer};
 ghost use Rattle.turning.specs.Turns.{turned_course, turned_pairs};
 ghost use Rattle.degeneralize.specs.Granted.{granted};
 
-use crate::turns::{last_met, same_turns, turn_of, turns_after};
+use crate::turns::{is_last_met, turn_of, turns_after};
 use acceptor::{Acceptor, Course};
 use refusal::{Cause, Layer, Refusal};
-use turning::TurnedState;
-
-const MOST: usize = 16;
+use turning::{MOST_PAIRS, TurnedState};
 
 // An acceptor, with a turn for each pair in its states.
 #[derive_where(Clone, Copy)]
@@ -22,7 +20,7 @@ impl<'a, A: Acceptor> Turned<'a, A> {
     pub fn new(inner: &'a A) -> Result<Turned<'a, A>, Refusal>
         ensures { answer (λ t. t.inner.now) result ≡ granted (A.Acceptor.judges inner.now).count inner.now }
     {
-        if inner.pairs() > MOST {
+        if inner.pairs() > MOST_PAIRS {
             return Err(Refusal::new(Cause::ManyPairs, Layer::Turn, 0));
         }
         Ok(Turned { inner })
@@ -41,7 +39,7 @@ impl<'a, A: Acceptor> Course for Turned<'a, A> {
     fn start(&self) -> TurnedState<A::State> {
         TurnedState {
             inner: self.inner.start(),
-            turns: [0; 16],
+            turns: [0; MOST_PAIRS],
         }
     }
 
@@ -52,10 +50,7 @@ impl<'a, A: Acceptor> Course for Turned<'a, A> {
     }
 
     fn same(&self, a: &TurnedState<A::State>, b: &TurnedState<A::State>) -> bool {
-        if !self.inner.same(&a.inner, &b.inner) {
-            return false;
-        }
-        same_turns(a, b)
+        self.inner.same(&a.inner, &b.inner) && a.turns == b.turns
     }
 }
 
@@ -67,7 +62,7 @@ impl<'a, A: Acceptor> Acceptor for Turned<'a, A> {
     }
 
     fn visits(&self, pair: usize) -> usize {
-        if pair < self.inner.pairs() { 1 } else { 0 }
+        usize::from(pair < self.inner.pairs())
     }
 
     fn avoids(&self, pair: usize, state: &TurnedState<A::State>) -> bool {
@@ -75,12 +70,7 @@ impl<'a, A: Acceptor> Acceptor for Turned<'a, A> {
     }
 
     fn visited(&self, pair: usize, set: usize, state: &TurnedState<A::State>) -> bool {
-        if pair >= self.inner.pairs() {
-            return false;
-        }
-        if set > 0 {
-            return false;
-        }
-        last_met(self.inner, pair, &state.inner, turn_of(&state.turns, pair))
+        let turn = turn_of(&state.turns, pair);
+        pair < self.inner.pairs() && set == 0 && is_last_met(self.inner, pair, &state.inner, turn)
     }
 }

@@ -1,89 +1,28 @@
-// A counter over one name, with up to two pairs of single states.
-ghost use Rattle.std.specs.Prelude.{◌≡◌, ◌≤◌, None};
-ghost use Rattle.judged.specs.Counters.{set_count, nth, holds, avoid_value, visit_value, counting, pairing};
+// A counter over one name, with pairs of single states.
+ghost use Rattle.std.specs.Prelude.{◌≤◌, length};
 
 use acceptor::{Acceptor, Course};
 
-#[derive(Clone, Copy)]
-pub enum Few<T> {
-    Zero,
-    One(T),
-    Two(T, T),
-}
-
 // A state to avoid, and the only states of its visit sets.
 #[derive(Clone, Copy)]
-pub struct Pair {
+pub struct Pair<'a> {
     pub avoid: Option<u8>,
-    pub visit: Few<u8>,
+    pub visits: &'a [u8],
+    ghost few: { length visits.now ≤ 15 },
 }
 
 // Counts the letters that have the name, from 0 to the last state and then from `back` on.
 #[derive(Clone, Copy)]
-pub struct Counter {
+pub struct Counter<'a> {
     pub last: u8,
     pub back: u8,
-    pub pairs: Few<Pair>,
+    pub pairs: &'a [Pair<'a>],
+    ghost few: { length pairs.now ≤ 256 },
 }
 
-fn how_many<T: Copy>(few: Few<T>) -> usize
-    ensures value { result ≡ set_count few }
-    ensures small { result ≤ 2 }
-{
-    match few {
-        Few::Zero => 0,
-        Few::One(_) => 1,
-        Few::Two(_, _) => 2,
-    }
-}
+impl Course for Counter<'_> {
+    ghost use Rattle.judged.specs.Counters.{counting};
 
-fn nth<T: Copy>(few: Few<T>, n: usize) -> Option<T>
-    ensures value { result ≡ nth few n }
-    ensures past { set_count few ≤ n → result ≡ None }
-{
-    match few {
-        Few::Zero => None,
-        Few::One(a) => if n == 0 { Some(a) } else { None },
-        Few::Two(a, b) => {
-            if n == 0 {
-                Some(a)
-            } else if n == 1 {
-                Some(b)
-            } else {
-                None
-            }
-        }
-    }
-}
-
-fn holds(chosen: Option<u8>, state: u8) -> bool
-    ensures { result ≡ holds chosen state }
-{
-    match chosen {
-        Some(a) => a == state,
-        None => false,
-    }
-}
-
-fn avoid_of(pair: Option<Pair>) -> Option<u8>
-    ensures { result ≡ avoid_value pair }
-{
-    match pair {
-        Some(p) => p.avoid,
-        None => None,
-    }
-}
-
-fn visit_of(pair: Option<Pair>) -> Few<u8>
-    ensures { result ≡ visit_value pair }
-{
-    match pair {
-        Some(p) => p.visit,
-        None => Few::Zero,
-    }
-}
-
-impl Course for Counter {
     type State = u8;
 
     ghost moves = { counting };
@@ -97,38 +36,42 @@ impl Course for Counter {
     }
 
     fn next(&self, state: &u8, letter: u8) -> u8 {
-        if letter % 2 == 1 {
-            if *state < self.last {
-                *state + 1
-            } else {
-                self.back
-            }
-        } else {
+        if letter % 2 == 0 {
             *state
+        } else if *state < self.last {
+            *state + 1
+        } else {
+            self.back
         }
     }
 
     fn same(&self, a: &u8, b: &u8) -> bool {
-        *a == *b
+        a == b
     }
 }
 
-impl Acceptor for Counter {
+impl Acceptor for Counter<'_> {
+    ghost use Rattle.judged.specs.Counters.{pairing};
+
     ghost judges = { pairing };
 
     fn pairs(&self) -> usize {
-        how_many(self.pairs)
+        self.pairs.len()
     }
 
     fn visits(&self, pair: usize) -> usize {
-        how_many(visit_of(nth(self.pairs, pair)))
+        self.pairs.get(pair).map_or(0, |p| p.visits.len())
     }
 
     fn avoids(&self, pair: usize, state: &u8) -> bool {
-        holds(avoid_of(nth(self.pairs, pair)), *state)
+        self.pairs.get(pair).and_then(|p| p.avoid) == Some(*state)
     }
 
     fn visited(&self, pair: usize, set: usize, state: &u8) -> bool {
-        holds(nth(visit_of(nth(self.pairs, pair)), set), *state)
+        self.pairs
+            .get(pair)
+            .and_then(|p| p.visits.get(set))
+            .copied()
+            == Some(*state)
     }
 }

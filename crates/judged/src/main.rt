@@ -3,23 +3,23 @@
 
 mod counter;
 
-use acceptor::Judgement;
-use acceptor::judge::judge;
-use counter::{Counter, Few, Pair};
+ghost use Rattle.std.specs.Prelude.{◌≤◌, length};
 
+use acceptor::judge::judge;
+use counter::{Counter, Pair};
+use round::Round;
+
+// Lead-in and cycle come apart, so that each case below is one line.
 fn show(
     rt: &HostRuntime,
-    counter: &Counter,
+    counter: &Counter<'_>,
     lead: &[u8],
     cycle: &[u8],
     places: usize,
 ) -> anyhow::Result<()> {
     let mut trail = vec![in rt.alloc(); 0u8; places]?;
-    match judge(counter, lead, cycle, trail.as_mut_slice()) {
-        Ok(Judgement::Accepted { pair, passes }) => println!(rt;
-            "yes pair {pair} passes {passes}"
-        )?,
-        Ok(Judgement::Rejected { passes }) => println!(rt; "no passes {passes}")?,
+    match judge(counter, Round { lead, cycle }, trail.as_mut_slice()) {
+        Ok(judgement) => println!(rt; "{judgement}")?,
         Err(refusal) => {
             let number = refusal.cause.number();
             let layer = refusal.layer.name();
@@ -35,10 +35,10 @@ fn show_ring(rt: &HostRuntime) -> anyhow::Result<()> {
     let ring = Counter {
         last: 2,
         back: 0,
-        pairs: Few::One(Pair {
+        pairs: &[Pair {
             avoid: None,
-            visit: Few::One(0),
-        }),
+            visits: &[0],
+        }],
     };
     show(rt, &ring, &[], &[1], 3)?;
     show(rt, &ring, &[], &[1], 2)?;
@@ -54,10 +54,10 @@ fn show_tail(rt: &HostRuntime) -> anyhow::Result<()> {
     let tail = Counter {
         last: 3,
         back: 2,
-        pairs: Few::One(Pair {
+        pairs: &[Pair {
             avoid: Some(1),
-            visit: Few::Two(3, 2),
-        }),
+            visits: &[3, 2],
+        }],
     };
     show(rt, &tail, &[], &[1], 4)?;
     show(rt, &tail, &[], &[1], 3)?;
@@ -67,16 +67,18 @@ fn show_tail(rt: &HostRuntime) -> anyhow::Result<()> {
     let early = Counter {
         last: 3,
         back: 2,
-        pairs: Few::One(Pair {
+        pairs: &[Pair {
             avoid: None,
-            visit: Few::One(1),
-        }),
+            visits: &[1],
+        }],
     };
     show(rt, &early, &[], &[1], 4)
 }
 
 // One round for several choices of pairs.
-fn show_pairs(rt: &HostRuntime, pairs: Few<Pair>) -> anyhow::Result<()> {
+fn show_pairs(rt: &HostRuntime, pairs: &[Pair<'_>]) -> anyhow::Result<()>
+    requires { length pairs.now ≤ 256 }
+{
     let ring = Counter {
         last: 2,
         back: 0,
@@ -88,27 +90,27 @@ fn show_pairs(rt: &HostRuntime, pairs: Few<Pair>) -> anyhow::Result<()> {
 fn show_choices(rt: &HostRuntime) -> anyhow::Result<()> {
     let any = Pair {
         avoid: None,
-        visit: Few::Zero,
+        visits: &[],
     };
     let barred = Pair {
         avoid: Some(1),
-        visit: Few::Zero,
+        visits: &[],
     };
     let both = Pair {
         avoid: None,
-        visit: Few::Two(0, 2),
+        visits: &[0, 2],
     };
     let beyond = Pair {
         avoid: Some(7),
-        visit: Few::Two(0, 7),
+        visits: &[0, 7],
     };
-    show_pairs(rt, Few::Zero)?;
-    show_pairs(rt, Few::One(any))?;
-    show_pairs(rt, Few::One(barred))?;
-    show_pairs(rt, Few::One(beyond))?;
-    show_pairs(rt, Few::Two(barred, both))?;
-    show_pairs(rt, Few::Two(both, any))?;
-    show_pairs(rt, Few::Two(barred, beyond))
+    show_pairs(rt, &[])?;
+    show_pairs(rt, &[any])?;
+    show_pairs(rt, &[barred])?;
+    show_pairs(rt, &[beyond])?;
+    show_pairs(rt, &[barred, both])?;
+    show_pairs(rt, &[both, any])?;
+    show_pairs(rt, &[barred, beyond])
 }
 
 // What is no round is refused before the trail is looked at.
@@ -116,7 +118,7 @@ fn show_refusals(rt: &HostRuntime) -> anyhow::Result<()> {
     let ring = Counter {
         last: 2,
         back: 0,
-        pairs: Few::Zero,
+        pairs: &[],
     };
     let most = vec![in rt.alloc(); 0u8; 1023]?;
     let more = vec![in rt.alloc(); 0u8; 1024]?;

@@ -4,16 +4,12 @@
 ghost use Rattle.machine.specs.Laws.{JudgedAlike, Looping, OneJudgement};
 
 // A round has one judgement, told by the stretch between two equal states.
-pub fn judging_stands<S>() -> u8
+pub fn judging_stands<S>()
     ensures unique { OneJudgement S }
     ensures loops { Looping S }
-{
-    0
-}
+{}
 
 // Machines whose runs correspond are judged alike.
-pub fn alike_stands<S, T>() -> u8
+pub fn alike_stands<S, T>()
     ensures { JudgedAlike S T }
-{
-    0
-}
+{}

@@ -11,18 +11,20 @@ ghost use Rattle.translate.specs.Meaning.{rule_moves, rule_judges};
 use acceptor::Judgement;
 use acceptor::judge::judge;
 use refusal::Refusal;
+use round::Round;
 use translate::{RuleAcceptor, State};
 
 // Judges a round; a yes means that its endless word satisfies the rule, a no that it does not. The trail is scrap afterwards.
 pub fn judge_bare(
     acceptor: &RuleAcceptor,
-    lead: &[u8],
-    cycle: &[u8],
+    round: Round<'_>,
     trail: &mut [State],
 ) -> Result<Judgement, Refusal>
     ensures judged { Judged (machine (rule_moves acceptor.now) (rule_judges acceptor.now))
-        lead.now cycle.now (length trail.old) (answer told result) }
-    ensures satisfied { Tells (Satisfies (spelling lead.now cycle.now) (formula_in acceptor.now.rule)) (answer told result) }
+        round.entry.lead.now round.entry.cycle.now (length trail.old) (answer told result) }
+    ensures satisfied { Tells
+        (Satisfies (spelling round.entry.lead.now round.entry.cycle.now) (formula_in acceptor.now.rule))
+        (answer told result) }
 {
-    judge(acceptor, lead, cycle, trail)
+    judge(acceptor, round, trail)
 }

@@ -13,20 +13,22 @@ use acceptor::Judgement;
 use acceptor::judge::judge;
 use degeneralize::Turned;
 use refusal::Refusal;
+use round::Round;
 use translate::{RuleAcceptor, State};
 use turning::TurnedState;
 
 // Judges a round by plain pairs, one visit set each; refused where the rule has more than 16 pairs.
 pub fn judge_turned(
     acceptor: &RuleAcceptor,
-    lead: &[u8],
-    cycle: &[u8],
+    round: Round<'_>,
     trail: &mut [TurnedState<State>],
 ) -> Result<Judgement, Refusal>
     ensures judged { TurnedJudged (machine (rule_moves acceptor.now) (rule_judges acceptor.now))
-        lead.now cycle.now (length trail.old) (answer told result) }
-    ensures satisfied { Tells (Satisfies (spelling lead.now cycle.now) (formula_in acceptor.now.rule)) (answer told result) }
+        round.entry.lead.now round.entry.cycle.now (length trail.old) (answer told result) }
+    ensures satisfied { Tells
+        (Satisfies (spelling round.entry.lead.now round.entry.cycle.now) (formula_in acceptor.now.rule))
+        (answer told result) }
 {
     let turned = Turned::new(acceptor)?;
-    judge(&turned, lead, cycle, trail)
+    judge(&turned, round, trail)
 }

@@ -1,15 +1,15 @@
-use Rattle.std.proofs.Common.{arith}
-use Rattle.degeneralize.proofs.Moving.{moved_more, moved_none}
+use Rattle.std.proofs.Common.{◌≡◌, drop, min, length, ℕ, length-take, ap, ◌∙◌, arith}
+use Rattle.turning.specs.Turns.{next_turns}
+use Rattle.degeneralize.proofs.Moving.{moved_more, moved_all}
 use Rattle.degeneralize.proofs.turns.turns_after.Goals as goal
-use Rattle.degeneralize.proofs.turns.turns_after.Goals.{then-pair-lt16, else-pair-lt16}
 
 pub loop-pair-preserved : goal.loop-pair-preserved
 loop-pair-preserved g c =
+    moved_more (g.A.Acceptor.judges c.args.inner.now) c.args.state.now c.args.turns.now c.loop-pair.turn-items
+    (drop c.min-pairs.result c.args.turns.now) c.loop-pair.pair (omega arith) c.loop-pair.invariant c.turn_after.ensures
+
+pub returns : goal.returns
+returns g c =
     let pairs = g.A.Acceptor.judges c.args.inner.now in
-    elim c.if-pair-lt16.branch [
-      | then-pair-lt16 w ↦
-          moved_more pairs c.args.state.now c.args.turns.now c.loop-pair.pair c.loop-pair.invariant {v = w.turn_after.result}
-          w.moved-is w.turn_after.ensures
-      | else-pair-lt16 w ↦
-          moved_none pairs c.args.state.now c.args.turns.now c.loop-pair.pair c.loop-pair.invariant w.moved-is (omega arith)
-    ]
+    let end : c.loop-pair.pair ≡ min pairs.count (length c.args.turns.now) = omega (arith, length-take {A = ℕ}) in
+    c.loop-pair.invariant ∙ ap (next_turns pairs c.args.state.now c.args.turns.now) end ∙ moved_all pairs c.args.state.now c.args.turns.now pairs.count

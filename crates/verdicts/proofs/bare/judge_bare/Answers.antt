@@ -14,8 +14,8 @@ returns c =
     let rule = c.args.acceptor.now.rule in
     let n = length (names_in rule) in
     let ns = nodes_in rule in
-    let lead = c.args.lead.now in
-    let cycle = c.args.cycle.now in
+    let lead = c.args.round.lead.now in
+    let cycle = c.args.round.cycle.now in
     record {
       judged = c.judge.ensures;
       satisfied = judged_tells (Satisfies (spelling lead cycle) (formula_in rule)) (machine_of rule_states n ns) lead cycle (length c.args.trail.now)

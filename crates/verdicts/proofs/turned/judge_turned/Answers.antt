@@ -23,8 +23,8 @@ pub returns-in_err-turned : goal.returns-in_err-turned
 returns-in_err-turned c =
     let x = c.args.acceptor.now in
     let m = machine (rule_moves x) (rule_judges x) in
-    let lead = c.args.lead.now in
-    let cycle = c.args.cycle.now in
+    let lead = c.args.round.lead.now in
+    let cycle = c.args.round.cycle.now in
     let r = refused_many m.pairs.count x (said c.in_err-turned.field-0.0) c.in_err-turned.ensures in
     let handed = handed_on c.in_err-turned.field-0.0 told c.from_residual.result c.from_residual.ensures.1 in
     record {
@@ -36,8 +36,8 @@ pub returns : goal.returns
 returns c =
     let x = c.args.acceptor.now in
     let m = machine (rule_moves x) (rule_judges x) in
-    let lead = c.args.lead.now in
-    let cycle = c.args.cycle.now in
+    let lead = c.args.round.lead.now in
+    let cycle = c.args.round.cycle.now in
     let w = spelling lead cycle in
     let g = granted_few m.pairs.count x c.in_ok-turned.turned.inner.now c.in_ok-turned.ensures in
     let judged = subst (λ (a : RuleAcceptor). Judged (turned (machine (rule_moves a) (rule_judges a))) lead cycle (length c.args.trail.now) (answer told c.judge.result)) g.1 c.judge.ensures in
