@@ -1,8 +1,9 @@
 // Every refusal of the panel: what was wrong, the layer that found it, and a place.
 #![tactic(auto)]
 
-ghost use Rattle.std.specs.Prelude.{◌≡◌};
+ghost use Rattle.std.specs.Prelude.{◌≡◌, Some};
 ghost use Rattle.refusal.specs.Answers.{number, layer_name};
+ghost use Rattle.refusal.specs.Printed.{refusal_text};
 
 use std::fmt;
 
@@ -91,6 +92,8 @@ impl Layer {
 }
 
 impl fmt::Display for Layer {
+    ghost output = { λ layer. Some (layer_name layer) };
+
     fn fmt<W: fmt::Write>(&self, f: &mut fmt::Formatter<W>) -> fmt::Result {
         f.write_str(self.name())
     }
@@ -98,6 +101,8 @@ impl fmt::Display for Layer {
 
 // A refusal as a report prints it.
 impl fmt::Display for Refusal {
+    ghost output = { λ refusal. Some (refusal_text refusal) };
+
     fn fmt<W: fmt::Write>(&self, f: &mut fmt::Formatter<W>) -> fmt::Result {
         write!(
             f,
