@@ -45,8 +45,7 @@ pub data Ahead (p : ℕ) (bs : List ℕ) : Type 0 where
 pub runs_past : (p : ℕ) (bs : List ℕ) → parts_from p 0 bs ≡ cut p ∷ [] → (t : ℕ) (b more : List ℕ) → bs ≡ encoded t b ++ more → ⊥
 runs_past p bs h t b more e =
     let w : whole p t b ∷ parts_from (p + 3 + length b) 0 more ≡ cut p ∷ [] = sym (parts_encoded p t b more) ∙ ap (parts_from p 0) (sym e) ∙ h in
-    let z : ◌≡◌ {A = ℕ} 0 1 = cc in
-    omega arith
+    cc
 
 -- bytes that have room for the field they tell of are that field, written out, and more
 field_ahead : (p t : ℕ) (bs : List ℕ) → ((i : ℕ) → get_or bs i 0 < 256) → 2 + told bs ≤ length bs → Ahead p (t ∷ bs)

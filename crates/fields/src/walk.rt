@@ -12,7 +12,7 @@ impl<'a> Fields<'a> {
         Fields { bytes, at: 0 }
     }
 
-    // The next field, where there is one; behind a field that is cut the walk does not go on.
+    // The next field, where there is one. Behind a field that is cut the walk does not go on, so it would be no iterator that ends.
     pub fn next(&mut self) -> Result<Option<Field<'a>>, Cut>
         ensures outcome { met self.new result ≡ next (remaining self.old) }
         ensures same { bytes_of self.new ≡ bytes_of self.old }

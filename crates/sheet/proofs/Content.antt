@@ -1,5 +1,5 @@
 -- A content as a row of fields: fields whose tags run through are some content's. Assumes nothing.
-use Rattle.std.proofs.Common.{◌≡◌, ℕ, ◌⊎◌, List, [], ◌∷◌, ◌++◌, map, Ok, Result, sym, refl, ap, ◌∙◌, inl, inr, arith}
+use Rattle.std.proofs.Common.{◌≡◌, ℕ, ◌⊎◌, List, [], ◌∷◌, ◌++◌, map, Ok, Result, sym, refl, ap, ◌∙◌, inl, inr}
 use Rattle.std.specs.List.{flat_map}
 use Rattle.std.proofs.lemmas.List.{map-append, append_assoc}
 use Rattle.refusal.specs.Answers.{Said, and_then}
@@ -65,8 +65,7 @@ rounds_of : (fs : List (ℕ × List ℕ)) → run LeadIn (tags fs) ≡ Ok LeadIn
 rounds_of [] h = ([], refl)
 rounds_of (f ∷ []) h =
     let c : ◌≡◌ {A = Result Due Said} (Ok Cycle) (Ok LeadIn) = (from_lead f.0 [] LeadIn h).1 in
-    let z : ◌≡◌ {A = ℕ} 0 1 = cc in
-    let x : ⊥ = omega arith in absurd x
+    absurd (cc)
 rounds_of (f ∷ g ∷ fs) h =
     let a = from_lead f.0 (g.0 ∷ tags fs) LeadIn h in
     let b = from_cycle g.0 (tags fs) LeadIn a.1 in
@@ -75,7 +74,7 @@ rounds_of (f ∷ g ∷ fs) h =
 
 -- fields that lead from the start to where a sheet may end are some content's
 pub content_of : (fs : List (ℕ × List ℕ)) → run NameOrRule (tags fs) ≡ Ok LeadIn → (s : Content) × (fields_of s ≡ fs)
-content_of [] h = let z : ◌≡◌ {A = ℕ} 0 1 = cc in let x : ⊥ = omega arith in absurd x
+content_of [] h = absurd (cc)
 content_of (f ∷ fs) h = go (from_name f.0 (tags fs) LeadIn h) (content_of fs)
   where
     go : ((f.0 ≡ 1) × (run NameOrRule (tags fs) ≡ Ok LeadIn)) ⊎ ((f.0 ≡ 2) × (run LeadIn (tags fs) ≡ Ok LeadIn))

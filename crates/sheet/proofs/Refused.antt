@@ -33,11 +33,11 @@ module _ (bytes : List ℕ) (none : (s : Content) → bytes ≡ spelled s → �
 
     -- a sheet that may end here is spelled, so here it may not
     refused_end : rest ≡ [] → (x : Due) → d ≡ x → (may_end x (length bytes) ≡ misplaced (length bytes)) × (x ≡ LeadIn → ⊥)
-    refused_end e NameOrRule q = (refl, λ l. let z : ◌≡◌ {A = ℕ} 0 1 = cc in omega arith)
+    refused_end e NameOrRule q = (refl, λ l. cc)
     refused_end e LeadIn q =
         let c = content_of fs (here ∙ ap (λ x. Ok x) q) in
         absurd (none c.0 (sym so ∙ ap (λ r. written fs ++ r) e ∙ append-nil (written fs) ∙ ap written (sym c.1) ∙ sym (spelled_written c.0)))
-    refused_end e Cycle q = (refl, λ l. let z : ◌≡◌ {A = ℕ} 0 1 = cc in omega arith)
+    refused_end e Cycle q = (refl, λ l. cc)
 
     -- at the end a field is still due
     at_end : rest ≡ [] → Halts bytes d (length (written fs)) rest
@@ -55,7 +55,7 @@ module _ (bytes : List ℕ) (none : (s : Content) → bytes ≡ spelled s → �
         let p = length (written fs) in
         let more : rest ≡ [] → ⊥ = λ q.
         let c : [] ≡ cut p ∷ [] = ap (parts_from p 0) (sym q) ∙ e in
-        let z : ◌≡◌ {A = ℕ} 0 1 = cc in omega arith in
+        cc in
         (p, ap (orderly (length bytes) d) e, stops (past more (runs_past p rest e)))
 
     module _ (t : ℕ) (b more : List ℕ) (e : rest ≡ encoded t b ++ more) where

@@ -1,5 +1,5 @@
 -- The tags of a sheet's fields, run through from what is due. Assumes nothing.
-use Rattle.std.proofs.Common.{◌≡◌, ℕ, Bool, true, false, cond, eqb, ◌⊎◌, List, [], ◌∷◌, ◌++◌, map, Ok, Err, Result, sym, refl, ap, ◌∙◌, inl, inr, arith}
+use Rattle.std.proofs.Common.{◌≡◌, ℕ, Bool, true, false, cond, eqb, ◌⊎◌, List, [], ◌∷◌, ◌++◌, map, Ok, Err, Result, sym, refl, ap, ◌∙◌, inl, inr}
 use mathlib.Core.Path.{fun_ext}
 use Rattle.std.specs.List.{flat_map}
 use Rattle.std.proofs.lemmas.Bool.{eqb-true}
@@ -49,13 +49,12 @@ run_step d t ts g h = go (stepped d t)
     go (inl s) = (s.0, s.1, sym (ap (λ r. and_then r (λ e. run e ts)) (s.1 0)) ∙ h)
     go (inr w) =
         let c : misplaced {A = Due} 0 ≡ Ok g = sym (ap (λ r. and_then r (λ e. run e ts)) (w 0)) ∙ h in
-        let z : ◌≡◌ {A = ℕ} 0 1 = cc in
-        let f : ⊥ = omega arith in absurd f
+        absurd (cc)
 
 -- a choice between a thing due and a refusal that is run through was the first
 chosen : (b : Bool) (e : Due) (ts : List ℕ) (g : Due) → and_then (cond b (Ok e) (misplaced 0)) (λ x. run x ts) ≡ Ok g → (b ≡ true) × (run e ts ≡ Ok g)
 chosen true e ts g h = (refl, h)
-chosen false e ts g h = let z : ◌≡◌ {A = ℕ} 0 1 = cc in let f : ⊥ = omega arith in absurd f
+chosen false e ts g h = absurd (cc)
 
 -- where a name or the rule is due, the tag is 1 or 2
 pub from_name : (t : ℕ) (ts : List ℕ) (g : Due) → run NameOrRule (t ∷ ts) ≡ Ok g → ((t ≡ 1) × (run NameOrRule ts ≡ Ok g)) ⊎ ((t ≡ 2) × (run LeadIn ts ≡ Ok g))
@@ -97,8 +96,7 @@ module _ (ts : List ℕ) (d : Due) (here : run NameOrRule ts ≡ Ok d) where
       let c : Ok LeadIn ≡ misplaced {A = Due} 0 =
       sym (run_sheet s) ∙ ap (run NameOrRule) (sym e) ∙ run_append NameOrRule ts (t ∷ others)
       ∙ ap (λ r. and_then r (λ x. run x (t ∷ others))) here ∙ ap (λ r. and_then r (λ x. run x others)) (w 0) in
-      let z : ◌≡◌ {A = ℕ} 0 1 = cc in
-      omega arith
+      cc
 
   -- a sheet's tags end where a lead-in is due
   pub sheet_ends : (s : Content) → ts ≡ tags_of s → d ≡ LeadIn
