@@ -9,9 +9,9 @@ use refusal::Refusal;
 use round::Round;
 use rule::Rule;
 use translate::{RuleAcceptor, State};
-use turning::TurnedState;
+use turning::{MOST_PAIRS, TurnedState};
 use verdicts::{judge_bare, judge_turned};
-use worked::{bytes_of, read_rule, written, yes_or_no};
+use support::{bytes_of, read_rule, written, yes_or_no};
 
 const TRAIL: usize = 256;
 
@@ -21,13 +21,6 @@ const LONGEST_RULE: usize = 1024;
 // The most letters of a round.
 const LONGEST_ROUND: usize = 1024;
 
-fn print_refusal(rt: &HostRuntime, refusal: Refusal) -> anyhow::Result<()> {
-    let number = refusal.cause.number();
-    let layer = refusal.layer.name();
-    let place = refusal.place;
-    Ok(print!(rt; "refused {number} {layer} place {place}")?)
-}
-
 fn print_straight(rt: &HostRuntime, verdict: Result<bool, Refusal>) -> anyhow::Result<()> {
     print!(rt; "straight ")?;
     match verdict {
@@ -35,7 +28,7 @@ fn print_straight(rt: &HostRuntime, verdict: Result<bool, Refusal>) -> anyhow::R
             let word = yes_or_no(verdict);
             Ok(print!(rt; "{word}")?)
         }
-        Err(refusal) => print_refusal(rt, refusal),
+        Err(refusal) => Ok(print!(rt; "{refusal}")?),
     }
 }
 
@@ -46,11 +39,8 @@ fn print_judged(
 ) -> anyhow::Result<()> {
     print!(rt; " {way} ")?;
     match judged {
-        Ok(Judgement::Accepted { pair, passes }) => Ok(print!(rt;
-            "yes pair {pair} passes {passes}"
-        )?),
-        Ok(Judgement::Rejected { passes }) => Ok(print!(rt; "no passes {passes}")?),
-        Err(refusal) => print_refusal(rt, refusal),
+        Ok(judgement) => Ok(print!(rt; "{judgement}")?),
+        Err(refusal) => Ok(print!(rt; "{refusal}")?),
     }
 }
 
@@ -67,7 +57,7 @@ fn print_rule(rt: &HostRuntime, rule: &Rule) -> anyhow::Result<()> {
     let pairs = RuleAcceptor::new(rule).pairs();
     match written(rt.alloc(), rule, LONGEST_RULE)? {
         Ok(text) => Ok(println!(rt; "rule {text} pairs {pairs}")?),
-        Err(refusal) => print_refusal(rt, refusal),
+        Err(refusal) => Ok(print!(rt; "{refusal}")?),
     }
 }
 
@@ -76,20 +66,20 @@ fn print_bare(rt: &HostRuntime, acceptor: &RuleAcceptor, round: Round<'_>) -> an
     print_judged(
         rt,
         "bare",
-        judge_bare(acceptor, round.lead, round.cycle, trail.as_mut_slice()),
+        judge_bare(acceptor, round, trail.as_mut_slice()),
     )
 }
 
 fn print_turned(rt: &HostRuntime, acceptor: &RuleAcceptor, round: Round<'_>) -> anyhow::Result<()> {
     let unused = TurnedState {
         inner: State::Start,
-        turns: [0; 16],
+        turns: [0; MOST_PAIRS],
     };
     let mut trail = vec![in rt.alloc(); unused; TRAIL]?;
     print_judged(
         rt,
         "turned",
-        judge_turned(acceptor, round.lead, round.cycle, trail.as_mut_slice()),
+        judge_turned(acceptor, round, trail.as_mut_slice()),
     )
 }
 

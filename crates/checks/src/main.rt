@@ -7,21 +7,13 @@ use refusal::Refusal;
 use round::Round;
 use rule::Rule;
 use sheet::Sheet;
-use worked::{bytes_of, declare, read_rule, written, yes_or_no};
-
-fn print_refusal(rt: &HostRuntime, refusal: Refusal) -> anyhow::Result<()> {
-    let number = refusal.cause.number();
-    let layer = refusal.layer.name();
-    let place = refusal.place;
-    println!(rt; "refused {number} {layer} place {place}")?;
-    Ok(())
-}
+use support::{bytes_of, declare, read_rule, written, yes_or_no};
 
 // A rule, written into an output with this much room.
 fn print_rule(rt: &HostRuntime, rule: &Rule, room: usize) -> anyhow::Result<()> {
     match written(rt.alloc(), rule, room)? {
         Ok(text) => Ok(println!(rt; "rule {text}")?),
-        Err(refusal) => print_refusal(rt, refusal),
+        Err(refusal) => Ok(println!(rt; "{refusal}")?),
     }
 }
 
@@ -33,7 +25,7 @@ fn check_names(rt: &HostRuntime, words: &str) -> anyhow::Result<()> {
             println!(rt; "names {count}")?;
             Ok(())
         }
-        Err(refusal) => print_refusal(rt, refusal),
+        Err(refusal) => Ok(println!(rt; "{refusal}")?),
     }
 }
 
@@ -42,7 +34,7 @@ fn check_rule(rt: &HostRuntime, line: &str, room: usize) -> anyhow::Result<()> {
     let (words, text) = line.split_once(':').context("a rule wants names:text")?;
     match read_rule(words, text) {
         Ok(rule) => print_rule(rt, &rule, room),
-        Err(refusal) => print_refusal(rt, refusal),
+        Err(refusal) => Ok(println!(rt; "{refusal}")?),
     }
 }
 
@@ -55,7 +47,7 @@ fn check_room(rt: &HostRuntime, line: &str) -> anyhow::Result<()> {
 fn print_sheet(rt: &HostRuntime, bytes: &[u8]) -> anyhow::Result<()> {
     match Sheet::read(bytes) {
         Ok(sheet) => print_rule(rt, &sheet.rule, 1024),
-        Err(refusal) => print_refusal(rt, refusal),
+        Err(refusal) => Ok(println!(rt; "{refusal}")?),
     }
 }
 
@@ -93,7 +85,7 @@ fn check_round(rt: &HostRuntime, line: &str) -> anyhow::Result<()> {
     let (words, text) = rest.split_once(':').context("round wants names:text")?;
     let rule = match read_rule(words, text) {
         Ok(rule) => rule,
-        Err(refusal) => return print_refusal(rt, refusal),
+        Err(refusal) => return Ok(println!(rt; "{refusal}")?),
     };
     // what the row holds before must not matter
     let mut row = vec![in rt.alloc(); u32::MAX; row.parse::<usize>()?]?;
@@ -112,7 +104,7 @@ fn print_verdict(rt: &HostRuntime, verdict: Result<bool, Refusal>) -> anyhow::Re
             let word = yes_or_no(verdict);
             Ok(println!(rt; "{word}")?)
         }
-        Err(refusal) => print_refusal(rt, refusal),
+        Err(refusal) => Ok(println!(rt; "{refusal}")?),
     }
 }
 

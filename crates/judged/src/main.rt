@@ -20,12 +20,7 @@ fn show(
     let mut trail = vec![in rt.alloc(); 0u8; places]?;
     match judge(counter, Round { lead, cycle }, trail.as_mut_slice()) {
         Ok(judgement) => println!(rt; "{judgement}")?,
-        Err(refusal) => {
-            let number = refusal.cause.number();
-            let layer = refusal.layer.name();
-            let place = refusal.place;
-            println!(rt; "refused {number} {layer} place {place}")?;
-        }
+        Err(refusal) => println!(rt; "{refusal}")?,
     }
     Ok(())
 }

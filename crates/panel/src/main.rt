@@ -6,6 +6,7 @@ use refusal::Refusal;
 use rule::Rule;
 use sheet::Sheet;
 use std::io::Read;
+use support::{written, yes_or_no};
 
 // One byte more than a sheet may have, so that a longer one can be told.
 const ENOUGH: u64 = 8193;
@@ -16,23 +17,10 @@ const LONGEST_RULE: usize = 1024;
 // The most letters of a round.
 const LONGEST_ROUND: usize = 1024;
 
-fn print_refusal(rt: &HostRuntime, refusal: Refusal) -> anyhow::Result<()> {
-    let number = refusal.cause.number();
-    let layer = refusal.layer.name();
-    let place = refusal.place;
-    println!(rt; "refused {number} {layer} place {place}")?;
-    Ok(())
-}
-
 fn print_rule(rt: &HostRuntime, rule: &Rule) -> anyhow::Result<()> {
-    let mut text = [0; LONGEST_RULE];
-    match rule.write(&mut text) {
-        Ok(length) => {
-            let written = std::str::from_utf8(text.get(0..length).unwrap_or(&[]))?;
-            println!(rt; "rule {written}")?;
-            Ok(())
-        }
-        Err(refusal) => print_refusal(rt, refusal),
+    match written(rt.alloc(), rule, LONGEST_RULE)? {
+        Ok(text) => Ok(println!(rt; "rule {text}")?),
+        Err(refusal) => Ok(println!(rt; "{refusal}")?),
     }
 }
 
@@ -43,9 +31,11 @@ fn print_round(
 ) -> anyhow::Result<()> {
     print!(rt; "round {number} ")?;
     match verdict {
-        Ok(true) => Ok(println!(rt; "yes")?),
-        Ok(false) => Ok(println!(rt; "no")?),
-        Err(refusal) => print_refusal(rt, refusal),
+        Ok(verdict) => {
+            let word = yes_or_no(verdict);
+            Ok(println!(rt; "{word}")?)
+        }
+        Err(refusal) => Ok(println!(rt; "{refusal}")?),
     }
 }
 
@@ -66,6 +56,6 @@ fn main(rt: HostRuntime) -> anyhow::Result<()> {
             print_rule(&rt, &sheet.rule)?;
             print_rounds(&rt, &sheet, bytes.as_slice())
         }
-        Err(refusal) => print_refusal(&rt, refusal),
+        Err(refusal) => Ok(println!(rt; "{refusal}")?),
     }
 }

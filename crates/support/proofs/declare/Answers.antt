@@ -7,9 +7,9 @@ use Rattle.std.specs.Str.Pattern.{FindsChar}
 use Rattle.refusal.specs.Answers.{said, and_then}
 use Rattle.names.specs.Listed.{spelled_names}
 use Rattle.names.specs.Names.{declared}
-use Rattle.worked.specs.Tables.{declared_all, listed}
-use Rattle.worked.proofs.Turns.{turn, ended, listed_some}
-use Rattle.worked.proofs.declare.Goals as goal
+use Rattle.support.specs.Tables.{declared_all, listed}
+use Rattle.support.proofs.Turns.{turn, ended, listed_some}
+use Rattle.support.proofs.declare.Goals as goal
 
 pub loop-word-init : goal.loop-word-init
 loop-word-init c =

@@ -6,7 +6,7 @@ ghost use Rattle.hex.specs.Hex.{decode_of};
 ghost use Rattle.refusal.specs.Answers.{answer, and_then};
 ghost use Rattle.grammar.specs.Descent.{reading};
 ghost use Rattle.names.specs.Listed.{spelled_names};
-ghost use Rattle.worked.specs.Tables.{declared_all, listed};
+ghost use Rattle.support.specs.Tables.{declared_all, listed};
 ghost use Rattle.rule.specs.Rules.{nodes_in, names_in};
 ghost use Rattle.rule.specs.Written.{word_in, writing};
 

@@ -2,7 +2,7 @@
 use Rattle.std.proofs.Common.{◌≡◌, ℕ, ◌<◌, eqb, List, [], ◌∷◌, length, Option, Some, None, sym, refl, ap, arith}
 use Rattle.std.specs.Iterator.{AlwaysYields}
 use Rattle.std.specs.List.{slice_split}
-use Rattle.worked.specs.Tables.{listed}
+use Rattle.support.specs.Tables.{listed}
 
 module _ {S A B : Type 0} (steps : S → Option A → S → Type 0) (v : A → B) (s t : S) where
   -- the first item is the first of the list, and the others are still to come

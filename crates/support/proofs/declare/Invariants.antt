@@ -3,8 +3,8 @@ use Rattle.std.specs.Iterator.{AlwaysYields}
 use Rattle.std.specs.Str.Iter.{split_steps}
 use Rattle.std.specs.Str.Pattern.{FindsChar}
 use Rattle.names.specs.Listed.{spelled_names}
-use Rattle.worked.specs.Tables.{declared_all, listed}
-use Rattle.worked.proofs.declare.Given as goal
+use Rattle.support.specs.Tables.{declared_all, listed}
+use Rattle.support.proofs.declare.Given as goal
 
 -- the words still to come, declared behind those that are, are all the words declared
 abbrev pub invariant-loop-word : goal.invariant-loop-word
