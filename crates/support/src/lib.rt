@@ -1,12 +1,11 @@
 // What the programs share: reading names, rules and letters as their tables write them, and a rule's written text.
 #![tactic(auto)]
 
-ghost use Rattle.std.specs.Prelude.{◌≡◌, [], codes, if◌then◌else◌, IfOk, length, string_bytes};
-ghost use Rattle.hex.specs.Hex.{decode_of};
+ghost use Rattle.std.specs.Prelude.{◌≡◌, ◌<◌, [], codes, if◌then◌else◌, IfOk, length, string_bytes};
 ghost use Rattle.refusal.specs.Answers.{answer, and_then};
 ghost use Rattle.grammar.specs.Descent.{reading};
 ghost use Rattle.names.specs.Listed.{spelled_names};
-ghost use Rattle.support.specs.Tables.{declared_all, listed};
+ghost use Rattle.support.specs.Tables.{bytes_in, declared_all, digit_in, listed};
 ghost use Rattle.rule.specs.Rules.{nodes_in, names_in};
 ghost use Rattle.rule.specs.Written.{word_in, writing};
 
@@ -38,15 +37,29 @@ pub fn read_rule(words: &str, text: &str) -> Result<Rule, Refusal>
     Rule::read(&names, text.as_bytes())
 }
 
-// Bytes written in hexadecimal, or `-` for none.
-pub fn bytes_of<A: Allocator>(alloc: A, text: &str) -> anyhow::Result<Vec<u8, A>>
-    ensures none { text.now ≡ codes "-" → IfOk result (λ bytes. bytes.items ≡ []) }
-    ensures some { ¬ (text.now ≡ codes "-") → IfOk result (λ bytes. decode_of text.now ≡ Ok bytes.items) }
+// What a hexadecimal digit counts; 0 where it is none.
+fn digit(b: u8) -> u8
+    ensures value { result ≡ digit_in b }
+    ensures few { result < 16 }
 {
-    if text == "-" {
-        return Ok(Vec::new(alloc));
+    match b {
+        b'0'..=b'9' => b - b'0',
+        b'a'..=b'f' => b - b'a' + 10,
+        _ => 0,
     }
-    Ok(hex::decode(alloc, text)?)
+}
+
+// Bytes written in hexadecimal, two digits each.
+pub fn bytes_of<A: Allocator>(alloc: A, text: &str) -> anyhow::Result<Vec<u8, A>>
+    ensures { IfOk result (λ bytes. bytes.items ≡ bytes_in text.now) }
+{
+    let mut bytes = Vec::new(alloc);
+    let mut rest = text.as_bytes();
+    while let [high, low, behind @ ..] = rest {
+        bytes.push(digit(*high) * 16 + digit(*low))?;
+        rest = behind;
+    }
+    Ok(bytes)
 }
 
 // A rule as it is written into an output with this much room, or the refusal where there is too little.
