@@ -51,14 +51,14 @@ at_node ns ks ws k x w same turn = record {
   within = ap (bit 0) (turn.3 0);
 }
 
--- a test of each item is one of each index
-any_up_to : {X : Type 0} (test : X → Bool) (p : ℕ → Bool) (xs : List X) (d : X) → ((k : ℕ) → k < length xs → test (get_or xs k d) ≡ p k)
-    → (m : ℕ) → m ≤ length xs → list_any test (take m xs) ≡ some m p
+-- a test of the first items is one of their indices
+pub any_up_to : {X : Type 0} (test : X → Bool) (p : ℕ → Bool) (xs : List X) (d : X) (m : ℕ) → m ≤ length xs
+    → ((k : ℕ) → k < m → test (get_or xs k d) ≡ p k) → list_any test (take m xs) ≡ some m p
 unfolding some
-any_up_to test p xs d same zero l = refl
-any_up_to test p xs d same (suc m) l =
+any_up_to test p xs d zero l same = refl
+any_up_to test p xs d (suc m) l same =
     ap (λ j. list_any test (take j xs)) (sym (add-one m)) ∙ list_any_more test xs m d (omega arith)
-    ∙ ap₂ (λ x y. x || y) (any_up_to test p xs d same m (omega arith)) (same m (omega arith))
+    ∙ ap₂ (λ x y. x || y) (any_up_to test p xs d m (omega arith) (λ k h. same k (omega arith))) (same m (omega arith))
 
 module _ (rule : Rule) (I : ℕ) (ws : List ℕ) (told : Told Kept (nodes_in rule) I (length (nodes_in rule)) ws) where
   -- whether some node is unmet, from each node with its word
@@ -68,7 +68,7 @@ module _ (rule : Rule) (I : ℕ) (ws : List ℕ) (told : Told Kept (nodes_in rul
   unmet_any a allowed room =
       let many : length (zip ns ws) ≡ length ns = omega (arith, length-zip ns ws) in
       ap (list_any test) (sym (take_all (length ns) (zip ns ws) (omega arith)))
-      ∙ any_up_to test _ (zip ns ws) (True, 0) (λ k l. here k (omega arith)) (length ns) (omega arith)
+      ∙ any_up_to test _ (zip ns ws) (True, 0) (length ns) (omega arith) here
     where
       ns : List Node
       ns = nodes_in rule
