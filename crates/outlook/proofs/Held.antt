@@ -13,7 +13,7 @@ use Rattle.forecast.specs.Forecasts.{rank, value_of, values}
 use Rattle.forecast.proofs.Values.{value_at}
 use Rattle.outlook.specs.declared.deciding.Deciding.{Deciding}
 use Rattle.outlook.specs.declared.deciding.Deciding.TheVariants.{Kept, Renewed}
-use Rattle.outlook.specs.Letters.{letters_where, how_of, all_letters_if, eventual_by, lasting_by, held_by, Told}
+use Rattle.outlook.specs.Letters.{letters_where, how_of, all_letters_if, decided_by, held_by, Told}
 
 -- every letter or none, by a test that does not look at the letter
 all_letters_if_where : (b : Bool) → all_letters_if b ≡ letters_where (λ a. b)
@@ -31,12 +31,12 @@ module _ (d : Deciding) (J t k : ℕ) (V : ℕ → List Bool) (ws : List ℕ)
   held_right (Or i j) f = ap₂ bit_or (known i f.0) (known j f.1) ∙ gathered_or (λ a. get_or (V a) i false) (λ a. get_or (V a) j false) 0 64
   held_right (Eventually q) f = go d
     where
-      go : (e : Deciding) → eventual_by e (get_or ws q 0) (bit t J) ≡ letters_where (λ a. how_of e (Eventually q) (get_or (V a) q false) (bit t J))
+      go : (e : Deciding) → decided_by e (all_letters_if (bit t J)) (bit_or (get_or ws q 0) (all_letters_if (bit t J))) ≡ letters_where (λ a. how_of e (Eventually q) (get_or (V a) q false) (bit t J))
       go Kept = all_letters_if_where (bit t J)
       go Renewed = ap₂ bit_or (known q f) (all_letters_if_where (bit t J)) ∙ gathered_or (λ a. get_or (V a) q false) (λ a. bit t J) 0 64
   held_right (Always q) f = go d
     where
-      go : (e : Deciding) → lasting_by e (get_or ws q 0) (bit t J) ≡ letters_where (λ a. how_of e (Always q) (get_or (V a) q false) (bit t J))
+      go : (e : Deciding) → decided_by e (all_letters_if (bit t J)) (bit_and (get_or ws q 0) (all_letters_if (bit t J))) ≡ letters_where (λ a. how_of e (Always q) (get_or (V a) q false) (bit t J))
       go Kept = all_letters_if_where (bit t J)
       go Renewed = ap₂ bit_and (known q f) (all_letters_if_where (bit t J)) ∙ gathered_and (λ a. get_or (V a) q false) (λ a. bit t J) 0 64
 

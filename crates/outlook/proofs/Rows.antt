@@ -1,68 +1,73 @@
--- A row of forecasts, one for each letter, made bit by bit. Assumes nothing.
-use Rattle.std.proofs.Common.{◌≡◌, ℕ, zero, suc, ◌+◌, ◌^◌, ◌<◌, ◌≤◌, Bool, true, false, cond, List, [], ◌∷◌, length, get_or, take, sym, refl, ap, ◌∙◌, add-one, arith}
-use Rattle.std.proofs.lemmas.List.{take_all}
-use Rattle.std.proofs.lemmas.Bool.{cond-true, cond-false}
+-- A row of forecasts, one for each letter, made bit by bit from the words of the temporal nodes. Assumes nothing.
+use Rattle.std.proofs.Common.{◌≡◌, ℕ, zero, suc, ◌+◌, ◌^◌, ◌<◌, ◌≤◌, Bool, true, false, cond, List, [], ◌∷◌, length, get_or, map, take, sym, refl, ap, ◌∙◌, ap₂, arith}
+use Rattle.std.specs.List.{enumerate_from, filter, sum_by, zip}
+use Rattle.std.proofs.lemmas.List.Sums.{sum_by-cons}
+use Rattle.std.proofs.lemmas.Bool.{cond-true}
+use Rattle.std.proofs.lemmas.Nat.{pow-add}
 use Rattle.ltl.specs.declared.Node.{Node}
 use Rattle.ltl.specs.declared.Node.TheVariants.{True}
+use Rattle.ltl.specs.Words.{bit}
 use Rattle.ltl.specs.Arena.{temporal, temporals}
-use Rattle.ltl.proofs.Meanings.{Tidy}
-use Rattle.forecast.specs.Forecasts.{rank, renewed, values, gather, recast}
-use Rattle.forecast.proofs.Bits.{temporals_cons, gather_below}
-use Rattle.forecast.proofs.Values.{length_values}
+use Rattle.forecast.specs.Forecasts.{rank, gather}
+use Rattle.forecast.proofs.Bits.{temporals_cons}
 
--- what the first k nodes gather, and one node more
-gather_more : (t : ℕ) (ns : List Node) (vs : List Bool) (k : ℕ) → length vs ≡ length ns → k < length ns
-    → gather t (take (suc k) ns) vs ≡ gather t (take k ns) vs + cond (temporal (get_or ns k True)) (cond (get_or vs k false) (2 ^ (t + rank ns k)) 0) 0
-gather_more t [] vs k e l = let z : ⊥ = omega arith in absurd z
-gather_more t (x ∷ xs) [] k e l = let z : ⊥ = omega arith in absurd z
-gather_more t (x ∷ xs) (v ∷ vs) zero e l = go (temporal x)
+-- the temporal nodes with their words
+abbrev pub temporal_words : List Node → List ℕ → List (Node × ℕ)
+temporal_words ns ws = filter (λ p. temporal p.0) (zip ns ws)
+
+-- what a numbered word adds to the forecast of a letter
+abbrev pub bit_value : ℕ → ℕ × (Node × ℕ) → ℕ
+bit_value a p = cond (bit a p.1.1) (2 ^ p.0) 0
+
+-- all of them add up to the forecast that is gathered from the values that the words tell
+pub gather_words : (t : ℕ) (ns : List Node) (ws : List ℕ) (vs : List Bool) (a : ℕ) → length vs ≡ length ns → length ns ≤ length ws
+    → ((k : ℕ) → k < length ns → bit a (get_or ws k 0) ≡ get_or vs k false) → sum_by (bit_value a) (enumerate_from t (temporal_words ns ws)) ≡ gather t ns vs
+gather_words t [] ws vs a e l told = refl
+gather_words t (x ∷ xs) [] vs a e l told = let z : ⊥ = omega arith in absurd z
+gather_words t (x ∷ xs) (w ∷ ws) [] a e l told = let z : ⊥ = omega arith in absurd z
+gather_words t (x ∷ xs) (w ∷ ws) (v ∷ vs) a e l told =
+    go (temporal x) (λ u. gather_words u xs ws vs a (omega arith) (omega arith) (λ k h. told (suc k) (omega arith)))
   where
-    go : (b : Bool) → cond b (cond v (2 ^ t) 0 + 0) 0 ≡ 0 + cond b (cond v (2 ^ (t + 0)) 0) 0
-    go true = let z : cond v (2 ^ t) 0 + 0 ≡ 0 + cond v (2 ^ t) 0 = omega arith in z ∙ ap (λ j. 0 + cond v (2 ^ j) 0) (omega arith)
-    go false = refl
-gather_more t (x ∷ xs) (v ∷ vs) (suc k) e l =
-    step (temporal x) (gather_more (t + 1) xs vs k (omega arith) (omega arith)) (gather_more t xs vs k (omega arith) (omega arith))
-    ∙ ap (λ j. gather t (x ∷ take k xs) (v ∷ vs) + C (t + j)) (sym (temporals_cons x (take k xs)))
+    go : (b : Bool) → ((u : ℕ) → sum_by (bit_value a) (enumerate_from u (temporal_words xs ws)) ≡ gather u xs vs)
+        → sum_by (bit_value a) (enumerate_from t (cond b ((x, w) ∷ temporal_words xs ws) (temporal_words xs ws))) ≡ cond b (cond v (2 ^ t) 0 + gather (t + 1) xs vs) (gather t xs vs)
+    go true rest =
+        sum_by-cons (bit_value a) (t, (x, w)) (enumerate_from (t + 1) (temporal_words xs ws))
+        ∙ ap₂ (λ c m. cond c (2 ^ t) 0 + m) (told 0 (omega arith)) (rest (t + 1))
+    go false rest = rest t
+
+-- there are as many words as temporal nodes
+pub length_words : (ns : List Node) (ws : List ℕ) → length ns ≤ length ws → length (temporal_words ns ws) ≡ temporals ns
+length_words [] ws l = refl
+length_words (x ∷ xs) [] l = let z : ⊥ = omega arith in absurd z
+length_words (x ∷ xs) (w ∷ ws) l = go (temporal x) (length_words xs ws (omega arith)) ∙ sym (temporals_cons x xs)
   where
-    -- what node k adds where its bit is j
-    C : ℕ → ℕ
-    C j = cond (temporal (get_or xs k True)) (cond (get_or vs k false) (2 ^ j) 0) 0
+    go : (b : Bool) → length (temporal_words xs ws) ≡ temporals xs → length (cond b ((x, w) ∷ temporal_words xs ws) (temporal_words xs ws)) ≡ cond b 1 0 + temporals xs
+    go true h = omega arith
+    go false h = omega arith
 
-    step : (b : Bool) → gather (t + 1) (take (suc k) xs) vs ≡ gather (t + 1) (take k xs) vs + C ((t + 1) + rank xs k)
-        → gather t (take (suc k) xs) vs ≡ gather t (take k xs) vs + C (t + rank xs k)
-        → cond b (cond v (2 ^ t) 0 + gather (t + 1) (take (suc k) xs) vs) (gather t (take (suc k) xs) vs)
-        ≡ cond b (cond v (2 ^ t) 0 + gather (t + 1) (take k xs) vs) (gather t (take k xs) vs) + C (t + (cond b 1 0 + rank xs k))
-    step true f g = omega (arith, f, ap C (let z : (t + 1) + rank xs k ≡ t + (1 + rank xs k) = omega arith in z))
-    step false f g = omega (arith, g, ap C (let z : t + rank xs k ≡ t + (0 + rank xs k) = omega arith in z))
+-- the first r of them give no bit from r on
+bits_under : (t r : ℕ) (ps : List (Node × ℕ)) (a : ℕ) → r ≤ length ps → sum_by (bit_value a) (take r (enumerate_from t ps)) + 2 ^ t ≤ 2 ^ (t + r)
+bits_under t zero ps a l = omega (arith, ap (λ j. 2 ^ j) (let z : t + 0 ≡ t = omega arith in z))
+bits_under t (suc r) [] a l = let z : ⊥ = omega arith in absurd z
+bits_under t (suc r) (p ∷ ps) a l =
+    let first = sum_by-cons (bit_value a) (t, p) (take r (enumerate_from (t + 1) ps)) in
+    omega (arith, first, go (bit a p.1) (bits_under (t + 1) r ps a (omega arith)))
+  where
+    wider : 2 ^ (t + suc r) ≡ 2 ^ ((t + 1) + r)
+    wider = ap (λ j. 2 ^ j) (let z : t + suc r ≡ (t + 1) + r = omega arith in z)
 
--- the forecast that the first k nodes give to a letter
-abbrev pub gathered_by : List Node → ℕ → ℕ → ℕ → ℕ
-gathered_by ns J k a = gather 0 (take k ns) (values renewed ns a J)
+    go : (b : Bool) → sum_by (bit_value a) (take r (enumerate_from (t + 1) ps)) + 2 ^ (t + 1) ≤ 2 ^ ((t + 1) + r)
+        → (cond b (2 ^ t) 0 + sum_by (bit_value a) (take r (enumerate_from (t + 1) ps))) + 2 ^ t ≤ 2 ^ (t + suc r)
+    go true h = omega (arith, wider, h, pow-add 2 t 1)
+    go false h = omega (arith, wider, h, pow-add 2 t 1)
 
-module _ (ns : List Node) (tidy : Tidy ns) (J a : ℕ) where
-  -- it has as many bits as there are temporal nodes among them
-  pub by_below : (k : ℕ) → gathered_by ns J k a < 2 ^ rank ns k
-  by_below k = gather_below (take k ns) (values renewed ns a J)
+pub bits_below : (r : ℕ) (ps : List (Node × ℕ)) (a : ℕ) → r ≤ length ps → sum_by (bit_value a) (take r (enumerate_from 0 ps)) < 2 ^ r
+bits_below r ps a l = omega (arith, bits_under 0 r ps a l, ap (λ j. 2 ^ j) (let z : 0 + r ≡ r = omega arith in z))
 
-  -- all of them give the recast
-  pub by_all : (k : ℕ) → length ns ≤ k → gathered_by ns J k a ≡ recast ns a J
-  by_all k h = ap (λ xs. gather 0 xs (values renewed ns a J)) (take_all k ns h)
-
-  by_more : (k : ℕ) → k < length ns
-      → gathered_by ns J (k + 1) a ≡ gathered_by ns J k a + cond (temporal (get_or ns k True)) (cond (get_or (values renewed ns a J) k false) (2 ^ rank ns k) 0) 0
-  by_more k l =
-      ap (λ j. gathered_by ns J j a) (add-one k) ∙ gather_more 0 ns (values renewed ns a J) k (length_values renewed ns tidy a J) l
-      ∙ ap (λ j. gathered_by ns J k a + cond (temporal (get_or ns k True)) (cond (get_or (values renewed ns a J) k false) (2 ^ j) 0) 0) (omega arith)
-
-  -- a temporal node adds its bit, any other nothing
-  pub by_temporal : (k : ℕ) → k < length ns → temporal (get_or ns k True) ≡ true
-      → gathered_by ns J (k + 1) a ≡ gathered_by ns J k a + cond (get_or (values renewed ns a J) k false) (2 ^ rank ns k) 0
-  by_temporal k l e = by_more k l ∙ ap (λ x. gathered_by ns J k a + x) (cond-true (temporal (get_or ns k True)) _ 0 e)
-
-  pub by_other : (k : ℕ) → k < length ns → temporal (get_or ns k True) ≡ false → gathered_by ns J (k + 1) a ≡ gathered_by ns J k a
-  by_other k l e =
-      by_more k l ∙ ap (λ x. gathered_by ns J k a + x) (cond-false (temporal (get_or ns k True)) _ 0 e)
-      ∙ (let z : gathered_by ns J k a + 0 ≡ gathered_by ns J k a = omega arith in z)
+-- the same sum over what is read from each item
+pub sum_by-map : {X Y : Type 0} (f : Y → ℕ) (v : X → Y) (xs : List X) → sum_by f (map v xs) ≡ sum_by (λ x. f (v x)) xs
+sum_by-map f v [] = refl
+sum_by-map f v (x ∷ xs) = sum_by-cons f (v x) (map v xs) ∙ ap (λ m. f (v x) + m) (sum_by-map f v xs) ∙ sym (sum_by-cons (λ x. f (v x)) x xs)
 
 -- a temporal node is not the last bit but one of them
 pub rank_below : (ns : List Node) (k : ℕ) → k < length ns → temporal (get_or ns k True) ≡ true → rank ns k < temporals ns

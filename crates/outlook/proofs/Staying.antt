@@ -1,13 +1,13 @@
 -- When a forecast is steady, from its letters. Assumes nothing.
-use Rattle.std.proofs.Common.{◌≡◌, ℕ, ◌+◌, ◌-◌, ◌^◌, ◌<◌, ◌≤◌, Bool, true, false, not, ◌&&◌, ◌||◌, eqb, ltb, List, length, sym, refl, ap, ◌∙◌, ap₂, inl, inr, arith}
+use Rattle.std.proofs.Common.{◌≡◌, ℕ, zero, suc, ◌+◌, ◌-◌, ◌^◌, ◌≤◌, Bool, true, false, not, ◌&&◌, ◌||◌, eqb, ltb, List, length, sym, refl, ap, ◌∙◌, ap₂, inl, inr, arith}
 use lib.Bits.{bit_and}
-use Rattle.std.proofs.lemmas.Bool.{cases_Bool, eqb-true, eq-eqb, not-true, not_from_true, not_from_false, and_left, and_right, and_from, or_cases, or_from}
+use Rattle.std.proofs.lemmas.Bool.{cases_Bool, eqb-true, eq-eqb, not-true, not_from_false, and_left}
 use Rattle.ltl.specs.declared.Node.{Node}
 use Rattle.bits.proofs.Collected.{gathered_same, gathered_and, gathered_not}
 use Rattle.forecast.specs.Bounded.{some}
 use Rattle.forecast.specs.Forecasts.{holds_at}
 use Rattle.forecast.specs.Steady.{each_f, other_g, other_f, breaks, allowed, never_holds, never_fails, steady}
-use Rattle.forecast.proofs.Tests.{some_from, some_bounded, some_next}
+use Rattle.forecast.proofs.Tests.{some_bounded}
 use Rattle.outlook.specs.declared.odds.Odds.{Odds}
 use Rattle.outlook.specs.Letters.{letters_where}
 use Rattle.outlook.specs.Pairs.{letters_over, others, AtOdds, allowed_letters}
@@ -29,9 +29,22 @@ allowed_right n ns I o odds =
     and_assoc true y z = refl
     and_assoc false y z = refl
 
--- one node more that is met
-pub met_more : (p : ℕ → Bool) (k : ℕ) → some k p ≡ false → p k ≡ false → some (k + 1) p ≡ false
-met_more p k before here = some_next k p ∙ or_from _ _ before here
+-- some number passes one of two tests
+some_or : (m : ℕ) (f g : ℕ → Bool) → some m (λ k. f k || g k) ≡ (some m f || some m g)
+unfolding some
+some_or zero f g = refl
+some_or (suc m) f g = ap (λ b. b || (f m || g m)) (some_or m f g) ∙ swapped (some m f) (some m g) (f m) (g m)
+  where
+    swapped : (a b c d : Bool) → ((a || b) || (c || d)) ≡ ((a || c) || (b || d))
+    swapped true b c d = refl
+    swapped false true true d = refl
+    swapped false true false d = refl
+    swapped false false c d = refl
+
+-- none passes where it passes neither
+not_or : (a b : Bool) → not (a || b) ≡ (not a && not b)
+not_or true b = refl
+not_or false b = refl
 
 module _ (n : ℕ) (ns : List Node) (I : ℕ) where
   -- whether a letter is allowed
@@ -44,19 +57,13 @@ module _ (n : ℕ) (ns : List Node) (I : ℕ) where
   pub none_allowed : 2 ^ n ≤ 64 → allowed_letters n ns I ≡ 0 → false ≡ steady n ns I
   none_allowed few e = sym (and_left _ _ (not-true _ (sym (allowed_some few) ∙ eq-eqb _ 0 e)))
 
-  -- a node that is not met
-  pub node_unmet : (k : ℕ) → k < length ns → (each_f n ns I (never_holds n ns I) k || other_g n ns I (never_fails n ns I) k) ≡ true → false ≡ steady n ns I
-  node_unmet k l e = sym (and_right (some (2 ^ n) (allowed n ns I)) _ (elim (or_cases _ _ e) [
-    | inl h ↦ and_left _ _ (not_from_true _ (some_from (length ns) (each_f n ns I (never_holds n ns I)) k l h))
-    | inr h ↦ and_right _ _ (not_from_true _ (some_from (length ns) (other_g n ns I (never_fails n ns I)) k l h))
-  ]))
-
-  -- all are met
-  pub all_met : 2 ^ n ≤ 64 → (allowed_letters n ns I ≡ 0 → ⊥) → some (length ns) (each_f n ns I (never_holds n ns I)) ≡ false
-      → some (length ns) (other_g n ns I (never_fails n ns I)) ≡ false → true ≡ steady n ns I
-  all_met few some-letter f g =
+  -- whether all nodes are met
+  pub steady_is : 2 ^ n ≤ 64 → (allowed_letters n ns I ≡ 0 → ⊥)
+      → not (some (length ns) (λ k. each_f n ns I (never_holds n ns I) k || other_g n ns I (never_fails n ns I) k)) ≡ steady n ns I
+  steady_is few some-letter =
       let a : some (2 ^ n) (allowed n ns I) ≡ true = elim (cases_Bool (some (2 ^ n) (allowed n ns I))) [
         | inl t ↦ t
         | inr t ↦ absurd (some-letter (eqb-true _ 0 (allowed_some few ∙ not_from_false _ t)))
       ] in
-      sym (and_from _ _ a (and_from _ _ (not_from_false _ f) (not_from_false _ g)))
+      ap not (some_or (length ns) _ _) ∙ not_or _ _
+      ∙ sym (ap (λ b. b && (not (some (length ns) (each_f n ns I (never_holds n ns I))) && not (some (length ns) (other_g n ns I (never_fails n ns I))))) a)

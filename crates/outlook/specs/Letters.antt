@@ -21,14 +21,10 @@ how_of Renewed = renewed
 abbrev pub all_letters_if : Bool → ℕ
 all_letters_if b = cond b (2 ^ 64 - 1) 0
 
--- the letters of an F, or a G, from those of its part and whether it is forecast
-abbrev pub eventual_by : Deciding → ℕ → Bool → ℕ
-eventual_by Kept part b = all_letters_if b
-eventual_by Renewed part b = bit_or part (all_letters_if b)
-
-abbrev pub lasting_by : Deciding → ℕ → Bool → ℕ
-lasting_by Kept part b = all_letters_if b
-lasting_by Renewed part b = bit_and part (all_letters_if b)
+-- the letters by the forecast alone, or those decided anew
+abbrev pub decided_by : Deciding → ℕ → ℕ → ℕ
+decided_by Kept kept renewed = kept
+decided_by Renewed kept renewed = renewed
 
 -- the letters of a node, from those of the nodes before it and, if it is temporal, whether it is forecast
 abbrev pub held_by : Deciding → List ℕ → Node → Bool → ℕ
@@ -38,8 +34,8 @@ held_by d ws (Atom k) b = letters_where (bit k)
 held_by d ws (NotAtom k) b = 2 ^ 64 - 1 - letters_where (bit k)
 held_by d ws (And i j) b = bit_and (slice_index ws i) (slice_index ws j)
 held_by d ws (Or i j) b = bit_or (slice_index ws i) (slice_index ws j)
-held_by d ws (Eventually q) b = eventual_by d (slice_index ws q) b
-held_by d ws (Always q) b = lasting_by d (slice_index ws q) b
+held_by d ws (Eventually q) b = decided_by d (all_letters_if b) (bit_or (slice_index ws q) (all_letters_if b))
+held_by d ws (Always q) b = decided_by d (all_letters_if b) (bit_and (slice_index ws q) (all_letters_if b))
 
 -- the first m words are the letters at which the first m nodes have the value true
 abbrev pub Told : Deciding → List Node → ℕ → ℕ → List ℕ → Type 0

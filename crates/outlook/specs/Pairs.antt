@@ -3,11 +3,11 @@ use Rattle.std.specs.Prelude.{◌≡◌, ℕ, ◌-◌, ◌^◌, ◌<◌, Bool, t
 use Rattle.ltl.specs.declared.Node.{Node}
 use Rattle.ltl.specs.declared.Node.TheVariants.{True, False, Atom, NotAtom, And, Or, Eventually, Always}
 use Rattle.ltl.specs.Arena.{first_of}
+use Rattle.few.specs.Items.{items}
 use Rattle.forecast.specs.Bounded.{count, nth, some}
 use Rattle.forecast.specs.Forecasts.{holds_at}
 use Rattle.forecast.specs.Steady.{on_f, on_g, each_g, other_f, breaks, allowed, steady, visiting}
 use Rattle.outlook.specs.declared.pair.Pair.{Pair}
-use Rattle.outlook.specs.declared.pair.VisitSets.{VisitSets}
 use Rattle.outlook.specs.declared.odds.Odds.{Odds}
 use Rattle.outlook.specs.Letters.{letters_where}
 
@@ -59,13 +59,13 @@ abbrev pub visited_by : List ℕ → ℕ → Bool → Node → Bool
 visited_by ws every inside node = inside && on_f (λ q. not (bit_and every (others (slice_index ws q)) == 0)) node
 
 -- the visit sets that the first m nodes give
-pub record Visits (n : ℕ) (ns : List Node) (I m : ℕ) (v : VisitSets) : Type 0 where
-  pub count : v.count ≡ count m (visiting n ns I)
-  pub letters : (j : ℕ) → j < v.count → slice_index v.letters j ≡ letters_where (λ a. holds_at ns a I (first_of (slice_index_or ns (nth m (visiting n ns I) j) True)))
+pub record Visits (n : ℕ) (ns : List Node) (I m : ℕ) (sets : List ℕ) : Type 0 where
+  pub count : length sets ≡ count m (visiting n ns I)
+  pub letters : (j : ℕ) → j < length sets → slice_index sets j ≡ letters_where (λ a. holds_at ns a I (first_of (slice_index_or ns (nth m (visiting n ns I) j) True)))
 
 -- the pair of a steady forecast
 pub record PairOf (n : ℕ) (ns : List Node) (I : ℕ) (p : Pair) : Type 0 where
   pub steady : steady n ns I ≡ true
   pub forecast : p.forecast ≡ I
   pub breaking : p.breaking ≡ letters_where (breaks n ns I)
-  pub visits : Visits n ns I (length ns) p.visits
+  pub visits : Visits n ns I (length ns) (items p.visits)

@@ -2,7 +2,7 @@
 ghost use Rattle.std.specs.Prelude.{◌≡◌, ◌<◌, ◌≤◌, length, slice_index};
 ghost use Rattle.ltl.specs.Words.{bit};
 ghost use Rattle.rule.specs.Rules.{nodes_in};
-ghost use Rattle.outlook.specs.Letters.{letters_where, all_letters_if, eventual_by, lasting_by, held_by, Told};
+ghost use Rattle.outlook.specs.Letters.{letters_where, all_letters_if, decided_by, held_by, Told};
 
 use crate::deciding::Deciding;
 use bits::has_bit;
@@ -22,7 +22,7 @@ const NAMED: [u64; 6] = [
 fn name_letters(name: u8) -> u64
     ensures { result ≡ letters_where (bit name) }
 {
-    if name < 6 { NAMED[name as usize] } else { 0 }
+    NAMED.get(usize::from(name)).copied().unwrap_or(0)
 }
 
 fn all_or_none(all: bool) -> u64
@@ -35,40 +35,35 @@ fn all_or_none(all: bool) -> u64
 pub(crate) fn part(words: &[u64; 32], k: u8) -> u64
     ensures { result ≡ slice_index words.now k }
 {
-    if k < 32 { words[k as usize] } else { 0 }
+    words.get(usize::from(k)).copied().unwrap_or(0)
 }
 
-fn eventual(deciding: Deciding, part: u64, forecast: bool) -> u64
-    ensures { result ≡ eventual_by deciding part forecast }
-{
-    match deciding {
-        Deciding::Kept => all_or_none(forecast),
-        Deciding::Renewed => part | all_or_none(forecast),
+impl Deciding {
+    // The letters of a temporal node, of those that it has by the forecast alone and those that it has anew.
+    fn choose(self, kept: u64, renewed: u64) -> u64
+        ensures { result ≡ decided_by self kept renewed }
+    {
+        match self {
+            Deciding::Kept => kept,
+            Deciding::Renewed => renewed,
+        }
     }
-}
 
-fn lasting(deciding: Deciding, part: u64, forecast: bool) -> u64
-    ensures { result ≡ lasting_by deciding part forecast }
-{
-    match deciding {
-        Deciding::Kept => all_or_none(forecast),
-        Deciding::Renewed => part & all_or_none(forecast),
-    }
-}
-
-// The letters of a node, from those of the nodes before it.
-fn held(deciding: Deciding, words: &[u64; 32], node: Node, forecast: bool) -> u64
-    ensures { result ≡ held_by deciding words.now node forecast }
-{
-    match node {
-        Node::True => u64::MAX,
-        Node::False => 0,
-        Node::Atom(name) => name_letters(name),
-        Node::NotAtom(name) => !name_letters(name),
-        Node::And(i, j) => part(words, i) & part(words, j),
-        Node::Or(i, j) => part(words, i) | part(words, j),
-        Node::Eventually(q) => eventual(deciding, part(words, q), forecast),
-        Node::Always(q) => lasting(deciding, part(words, q), forecast),
+    // The letters of a node, from those of the nodes before it.
+    fn held(self, words: &[u64; 32], node: Node, forecast: bool) -> u64
+        ensures { result ≡ held_by self words.now node forecast }
+    {
+        let kept = all_or_none(forecast);
+        match node {
+            Node::True => u64::MAX,
+            Node::False => 0,
+            Node::Atom(name) => name_letters(name),
+            Node::NotAtom(name) => !name_letters(name),
+            Node::And(i, j) => part(words, i) & part(words, j),
+            Node::Or(i, j) => part(words, i) | part(words, j),
+            Node::Eventually(q) => self.choose(kept, part(words, q) | kept),
+            Node::Always(q) => self.choose(kept, part(words, q) & kept),
+        }
     }
 }
 
@@ -77,13 +72,11 @@ pub(crate) fn letters_under(rule: &Rule, forecast: u8, deciding: Deciding) -> [u
     ensures { Told deciding (nodes_in rule.now) forecast (length (nodes_in rule.now)) result }
 {
     let mut words = [0; 32];
+    // Counted beside the nodes: each of them gets its letters, and only the temporal ones have a bit.
     let mut rank = 0;
-    for k in 0..rule.count() {
-        let node = rule.node(k);
-        words[k] = held(deciding, &words, node, has_bit(u64::from(forecast), rank));
-        if node.is_temporal() {
-            rank += 1;
-        }
+    for (k, node) in rule.nodes().iter().enumerate() {
+        words[k] = deciding.held(&words, *node, has_bit(forecast, rank));
+        rank += usize::from(node.is_temporal());
     }
     words
 }

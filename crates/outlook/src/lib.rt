@@ -4,10 +4,11 @@
 mod deciding;
 mod letters;
 mod odds;
+mod outlook;
 mod pair;
 mod pairing;
 mod recasts;
 
-pub use pair::{Pair, VisitSets};
+pub use pair::Pair;
 pub use pairing::{forecast_count, pair_of, rule_letters};
 pub use recasts::recasts_of;

@@ -7,20 +7,17 @@ ghost use Rattle.outlook.specs.Letters.{Added};
 
 use crate::deciding::Deciding;
 use crate::letters::letters_under;
-use bits::has_bit;
+use bits::{has_bit, with_bit};
 use rule::Rule;
 
 // Adds bit `rank` to the forecast of each letter in the word.
-fn add_bit(row: &mut [u8; 64], letters: usize, word: u64, rank: usize)
-    requires room { letters ≤ 64 }
+fn add_bit(row: &mut [u8], word: u64, rank: usize)
     requires few { rank < 8 }
-    requires below { (a : ℕ) → a < letters → slice_index row.old a < 2 ^ rank }
-    ensures { Added word rank letters row.old row.new }
+    requires below { (a : ℕ) → a < length row.old → slice_index row.old a < 2 ^ rank }
+    ensures { Added word rank (length row.old) row.old row.new }
 {
-    for a in 0..letters {
-        if has_bit(word, a) {
-            row[a] += 1 << rank;
-        }
+    for (a, forecast) in row.iter_mut().enumerate() {
+        *forecast = with_bit(*forecast, rank, has_bit(word, a));
     }
 }
 
@@ -30,13 +27,14 @@ pub fn recasts_of(rule: &Rule, forecast: u8) -> [u8; 64]
 {
     let words = letters_under(rule, forecast, Deciding::Renewed);
     let letters = rule.letter_count();
+    let temporal = rule
+        .nodes()
+        .iter()
+        .zip(words.iter())
+        .filter(|(node, _)| node.is_temporal());
     let mut row = [0; 64];
-    let mut rank = 0;
-    for k in 0..rule.count() {
-        if rule.node(k).is_temporal() {
-            add_bit(&mut row, letters, words[k], rank);
-            rank += 1;
-        }
+    for (rank, (_, word)) in temporal.enumerate() {
+        add_bit(&mut row[..letters], *word, rank);
     }
     row
 }

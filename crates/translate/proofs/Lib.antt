@@ -1,4 +1,4 @@
-pub mod Filled
-pub mod Pairwise
+pub mod Members
+pub mod Looked
 pub mod Stepping
 pub mod Answering

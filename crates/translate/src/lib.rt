@@ -2,12 +2,14 @@
 #![tactic(auto)]
 
 pub mod course;
+mod forecasts;
 mod held;
 mod listing;
 mod making;
 mod obligation;
 pub mod pairs;
+mod row;
 mod state;
 
 pub use held::RuleAcceptor;
-pub use state::State;
+pub use state::{Forecasts, State};

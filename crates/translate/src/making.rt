@@ -1,58 +1,50 @@
-// Making the automaton of a rule: the tables over all its forecasts.
-ghost use Rattle.std.specs.Prelude.{◌≡◌, ℕ, ◌^◌, ◌<◌, ◌≤◌, false, ◌||◌, [], length, nat_eq, slice_index, slice_index_or};
+// Making the automaton of a rule: what is looked up, over all its forecasts.
+ghost use Rattle.std.specs.Prelude.{◌≡◌, ℕ, ◌^◌, ◌<◌, ◌≤◌, ◌==◌, length, take};
+ghost use Rattle.std.specs.List.{list_any};
+ghost use Rattle.few.specs.Items.{items};
 ghost use Rattle.ltl.specs.Arena.{temporals};
 ghost use Rattle.rule.specs.Rules.{names_in, nodes_in};
-ghost use Rattle.forecast.specs.Bounded.{some};
-ghost use Rattle.translate.specs.Tables.{FlagsRight, RecastsRight, RootsRight};
+ghost use Rattle.translate.specs.States.{member};
+ghost use Rattle.translate.specs.Tables.{Tabled};
 
 use crate::held::RuleAcceptor;
 use crate::listing::all_pairs;
+use crate::row::Row;
+use crate::state::Forecasts;
+use few::Few;
 use outlook::{forecast_count, recasts_of, rule_letters};
 use rule::Rule;
 
-// The recasts of each forecast of the rule.
-fn all_recasts(rule: &Rule) -> [[u8; 64]; 256]
-    ensures { RecastsRight (length (names_in rule.now)) (nodes_in rule.now) result }
+// The rows of all forecasts.
+fn all_rows(rule: &Rule) -> Few<Row, 256>
+    ensures { Tabled (length (names_in rule.now)) (nodes_in rule.now) (2 ^ temporals (nodes_in rule.now)) (items result) }
 {
-    let mut rows = [[0; 64]; 256];
-    for j in 0..forecast_count(rule) {
-        rows[j] = recasts_of(rule, j as u8);
+    let mut rows = Few::new(Row {
+        recasts: [0; 64],
+        root: 0,
+    });
+    for place in 0..forecast_count(rule) {
+        let forecast = place as u8;
+        let row = Row {
+            recasts: recasts_of(rule, forecast),
+            root: rule_letters(rule, forecast),
+        };
+        // there is room, since there are at most 256 forecasts
+        rows.push(row).unwrap();
     }
     rows
 }
 
-// The letters at which the rule holds, under each forecast.
-fn all_roots(rule: &Rule) -> [u64; 256]
-    ensures { RootsRight (nodes_in rule.now) result }
-{
-    let mut words = [0; 256];
-    for j in 0..forecast_count(rule) {
-        words[j] = rule_letters(rule, j as u8);
-    }
-    words
-}
-
-// Flags the forecasts in a row, up to so many letters.
-fn flag_row(flags: &mut [bool; 256], row: &[u8; 64], letters: usize)
+// The forecasts that are the recast of some forecast by one of so many letters.
+fn all_recasts(rows: &[Row], letters: usize) -> Forecasts
     requires { letters ≤ 64 }
-    ensures { (j : ℕ) → j < 256 → slice_index_or flags.new j false ≡ (slice_index_or flags.old j false || some letters (λ a. nat_eq (slice_index row.now a) j)) }
+    ensures { (J : ℕ) → J < 256 → member result J ≡ list_any (λ row. list_any (λ K. K == J) (take letters row.recasts)) rows.now }
 {
-    for a in 0..letters {
-        flags[row[a] as usize] = true;
+    let mut recasts = Forecasts::NONE;
+    for row in rows {
+        recasts.insert_all(&row.recasts[..letters]);
     }
-}
-
-// Flags every forecast that is the recast of some forecast by some letter.
-fn all_flags(rule: &Rule, rows: &[[u8; 64]; 256]) -> [bool; 256]
-    requires { RecastsRight (length (names_in rule.now)) (nodes_in rule.now) rows.now }
-    ensures { FlagsRight (length (names_in rule.now)) (nodes_in rule.now) result }
-{
-    let letters = rule.letter_count();
-    let mut flags = [false; 256];
-    for i in 0..forecast_count(rule) {
-        flag_row(&mut flags, &rows[i], letters);
-    }
-    flags
+    recasts
 }
 
 impl RuleAcceptor {
@@ -60,18 +52,12 @@ impl RuleAcceptor {
     pub fn new(rule: &Rule) -> RuleAcceptor
         ensures { result.rule ≡ rule.now }
     {
-        let recasts = all_recasts(rule);
-        let flags = all_flags(rule, &recasts);
-        let roots = all_roots(rule);
-        let listed = all_pairs(rule);
-        let pairs = listed.pairs;
+        let rows = all_rows(rule);
         RuleAcceptor {
             rule: *rule,
-            recasts,
-            flags,
-            roots,
-            pairs,
-            count: listed.count,
+            rows,
+            possible: all_recasts(rows.as_slice(), rule.letter_count()),
+            pairs: all_pairs(rule),
         }
     }
 }

@@ -10,38 +10,35 @@ impl Acceptor for RuleAcceptor {
     ghost judges = { rule_judges };
 
     fn pairs(&self) -> usize {
-        self.count
+        self.pairs.as_slice().len()
     }
 
     fn visits(&self, pair: usize) -> usize {
-        if pair >= self.count {
-            return 0;
+        match self.pairs.as_slice().get(pair) {
+            Some(pair) => pair.visits.as_slice().len(),
+            None => 0,
         }
-        self.pairs[pair].visits.count
     }
 
     // Not the start; an obligation that lacks the forecast, or a letter that breaks it.
     fn avoids(&self, pair: usize, state: &State) -> bool {
-        if pair >= self.count {
-            return false;
-        }
-        match *state {
-            State::Start => false,
-            State::Obliged { forecasts, letter } => avoided(&self.pairs[pair], &forecasts, letter),
+        match (self.pairs.as_slice().get(pair), *state) {
+            (Some(pair), State::Obliged { forecasts, letter }) => avoided(pair, &forecasts, letter),
+            _ => false,
         }
     }
 
     // Not the start; a letter of the set.
     fn visited(&self, pair: usize, set: usize, state: &State) -> bool {
-        if pair >= self.count || set >= self.pairs[pair].visits.count {
-            return false;
-        }
-        match *state {
-            State::Start => false,
-            State::Obliged {
-                forecasts: _,
-                letter,
-            } => in_set(&self.pairs[pair].visits.letters, set, letter),
+        match (self.pairs.as_slice().get(pair), *state) {
+            (
+                Some(pair),
+                State::Obliged {
+                    forecasts: _,
+                    letter,
+                },
+            ) => in_set(pair.visits.as_slice(), set, letter),
+            _ => false,
         }
     }
 }

@@ -1,15 +1,21 @@
-use Rattle.std.proofs.Common.{◌≡◌, ℕ, ◌+◌, ◌<◌, cond, length, get_or, sym, ap, ◌∙◌, ap₂, arith, length-set}
-use Rattle.std.proofs.lemmas.Bool.{cond-true, cond-false}
+use mir.Val.{bool_byte}
+use Rattle.std.proofs.Common.{◌≡◌, sym, Bool, true, false, refl, ◌+◌, ◌<◌, ◌≤◌, lit≤, cond, length, get_or, ap, ◌∙◌, ap₂, arith, length-set}
 use Rattle.ltl.specs.declared.Node.TheVariants.{True}
 use Rattle.ltl.specs.Words.{bit}
 use Rattle.ltl.specs.Arena.{temporal}
-use Rattle.ltl.proofs.Meanings.{sound_tidy}
-use Rattle.rule.specs.Rules.{nodes_in, names_in}
-use Rattle.forecast.specs.Forecasts.{rank}
+use Rattle.rule.specs.Rules.{nodes_in}
 use Rattle.outlook.specs.Letters.{held_by}
 use Rattle.outlook.proofs.Held.{held_next, told_more, rank_more}
+use Rattle.outlook.proofs.Ruled.{tidy_nodes}
 use Rattle.outlook.proofs.letters.letters_under.Goals as goal
-use Rattle.outlook.proofs.letters.letters_under.Goals.{then-is_temporal, else-is_temporal}
+
+as_number : (b : Bool) → bool_byte b ≡ cond b 1 0
+as_number true = refl
+as_number false = refl
+
+byte_few : (b : Bool) → bool_byte b ≤ 1
+byte_few true = lit≤ tt
+byte_few false = lit≤ tt
 
 pub loop-k-preserved : goal.loop-k-preserved
 loop-k-preserved c =
@@ -20,24 +26,13 @@ loop-k-preserved c =
     let k = c.loop-k.k in
     let ws = c.loop-k.words in
     let inv = c.loop-k.invariant in
-    let inside : k < length ns = omega (arith, c.count-k-end.ensures.value) in
-    let tidy = sound_tidy (length (names_in rule)) ns rule.sound in
-    let here : c.is_temporal.result ≡ temporal (get_or ns k True) = c.is_temporal.ensures ∙ ap temporal c.node-node.ensures in
-    let forecast : c.has_bit.result ≡ bit (rank ns k) J = c.has_bit.ensures ∙ ap₂ bit inv.2 c.from.ensures in
-    let word = c.held.ensures ∙ ap₂ (held_by d ws) c.node-node.ensures forecast ∙ held_next d ns J k ws tidy inside inv.3 in
-    let more : rank ns (k + 1) ≡ rank ns k + cond c.is_temporal.result 1 0 = rank_more ns k inside ∙ ap (λ b. rank ns k + cond b 1 0) (sym here) in
-    let room : k < length ws = omega (arith, c.count-k-end.ensures.few) in
-    elim c.if-is_temporal.branch [
-      | then-is_temporal w ↦ (
-        length-set ws k c.held.result ∙ inv.0,
-        omega (arith, w.rank-is),
-        omega (arith, w.rank-is, more, cond-true {A = ℕ} c.is_temporal.result 1 0 w.if-is_temporal.true),
-        told_more d ns J k ws c.held.result room inv.3 word,
-      )
-      | else-is_temporal w ↦ (
-        length-set ws k c.held.result ∙ inv.0,
-        omega (arith, w.rank-is),
-        omega (arith, w.rank-is, more, cond-false {A = ℕ} c.is_temporal.result 1 0 w.if-is_temporal.false),
-        told_more d ns J k ws c.held.result room inv.3 word,
-      )
-    ]
+    let node = ap (λ xs. get_or xs k True) c.nodes-node-items.ensures.value in
+    let inside : k < length ns = omega (arith, c.loop-k-test.true, ap length c.nodes-node-items.ensures.value) in
+    let word = c.held.ensures ∙ ap₂ (held_by d ws) node (c.has_bit.ensures ∙ ap (λ r. bit r J) inv.rank) ∙ held_next d ns J k ws (tidy_nodes rule) inside inv.told in
+    let temporal = c.from-rank.ensures ∙ as_number c.is_temporal.result ∙ ap (λ b. cond b 1 0) (c.is_temporal.ensures ∙ ap temporal node) in
+    record {
+      size = length-set ws k c.held.result ∙ inv.size;
+      few = omega (arith, c.from-rank.ensures, byte_few c.is_temporal.result);
+      rank = ap₂ ◌+◌ inv.rank temporal ∙ sym (rank_more ns k inside);
+      told = told_more d ns J k ws c.held.result (omega (arith, inv.size, c.nodes-node-items.ensures.few)) inv.told word;
+    }

@@ -1,8 +1,9 @@
-use Rattle.outlook.proofs.Named.{named_right, named_past}
+use Rattle.std.proofs.Common.{◌≡◌, get_or, ◌∙◌, rules}
+use Rattle.outlook.proofs.Named.{named_letters, named_all}
 use Rattle.outlook.proofs.letters.name_letters.Goals as goal
 
-pub returns-then-name-lt6 : goal.returns-then-name-lt6
-returns-then-name-lt6 c = named_right c.args.name c.if-name-lt6.true
-
-pub returns-else-name-lt6 : goal.returns-else-name-lt6
-returns-else-name-lt6 c = named_past c.args.name c.if-name-lt6.false
+pub returns : goal.returns
+returns c =
+    let name = c.args.name in
+    let looked-up : c.unwrap_or.result ≡ get_or named_letters name 0 = search rules in
+    looked-up ∙ named_all name

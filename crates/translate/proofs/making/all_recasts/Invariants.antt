@@ -1,9 +1,8 @@
-use Rattle.std.proofs.Common.{◌≡◌, ℕ, ◌^◌, ◌<◌, [], length, get_or}
-use Rattle.rule.specs.Rules.{nodes_in, names_in}
-use Rattle.forecast.specs.Forecasts.{recast}
+use Rattle.std.proofs.Common.{◌≡◌, ℕ, ◌<◌, eqb, take}
+use Rattle.std.specs.List.{list_any}
+use Rattle.translate.specs.States.{member}
 use Rattle.translate.proofs.making.all_recasts.Given as goal
 
-abbrev pub invariant-loop-j : goal.invariant-loop-j
-invariant-loop-j l =
-    (length l.rows ≡ 256)
-    × ((i : ℕ) → i < l.j → (a : ℕ) → a < 2 ^ length (names_in l.rule) → get_or (get_or l.rows i []) a 0 ≡ recast (nodes_in l.rule) a i)
+abbrev pub invariant-loop-row : goal.invariant-loop-row
+invariant-loop-row l =
+    (J : ℕ) → J < 256 → member l.recasts J ≡ list_any (λ row. list_any (λ K. eqb K J) (take l.letters row.recasts)) (take l.row-index l.rows)
