@@ -32,9 +32,6 @@ abbrev pub absent_row : Row
 absent_row = record { recasts = []; root = 0 }
 
 module _ (n : ℕ) (ns : List Node) where
-  pub tabled_none : Tabled n ns 0 []
-  tabled_none = record { many = omega arith; each = λ j row e. let z : ⊥ = omega (arith, slice_get_within [] j row e) in absurd z }
-
   pub tabled_more : (m : ℕ) (rows : List Row) (row : Row) → Tabled n ns m rows → RowOf n ns m row → Tabled n ns (m + 1) (rows ++ row ∷ [])
   tabled_more m rows row before here = record {
     many = omega (arith, length-append rows (row ∷ []), before.many);
