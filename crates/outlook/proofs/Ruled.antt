@@ -1,5 +1,5 @@
 -- What is known of every rule and its nodes. Assumes nothing.
-use Rattle.std.proofs.Common.{◌≡◌, ℕ, zero, suc, ◌+◌, ◌^◌, ◌<◌, ◌≤◌, Bool, ◌||◌, List, [], ◌∷◌, ◌++◌, length, get_or, take, add-one, refl, sym, ap, ◌∙◌, ap₂, subst, arith, pow_mono, length-append, length-take}
+use Rattle.std.proofs.Common.{◌≡◌, ℕ, zero, suc, ◌+◌, ◌^◌, ◌<◌, ◌≤◌, Bool, ◌||◌, List, [], ◌∷◌, ◌++◌, length, get_or, take, add-one, refl, sym, ap, ◌∙◌, ap₂, subst, arith, pow_mono, length-append}
 use Rattle.std.specs.List.{list_any, zip}
 use Rattle.std.proofs.lemmas.List.{take_all}
 use Rattle.std.proofs.lemmas.List.Folds.{list_any_more}
@@ -9,7 +9,8 @@ use Rattle.ltl.specs.declared.Node.{Node}
 use Rattle.ltl.specs.declared.Node.TheVariants.{True}
 use Rattle.ltl.specs.Words.{bit}
 use Rattle.ltl.proofs.Meanings.{Tidy, sound_tidy}
-use Rattle.names.proofs.Rows.{names_count}
+use Rattle.few.proofs.Granted.{items_few}
+use Rattle.names.proofs.Rows.{names_few}
 use Rattle.rule.specs.declared.held.Rule.{Rule}
 use Rattle.rule.specs.Rules.{nodes_in, names_in}
 use Rattle.forecast.specs.Steady.{each_f, other_g, never_holds, never_fails, visiting}
@@ -24,13 +25,13 @@ tidy_nodes rule = sound_tidy (length (names_in rule)) (nodes_in rule) rule.sound
 
 -- at most six names, so at most 64 letters
 pub few_names : (rule : Rule) → length (names_in rule) ≤ 6
-few_names rule = let few = rule.names.few in omega (arith, names_count rule.names)
+few_names rule = names_few rule.names
 
 pub few_letters : (rule : Rule) → 2 ^ length (names_in rule) ≤ 64
 few_letters rule = let p : 2 ^ length (names_in rule) ≤ 2 ^ 6 = pow_mono (few_names rule) in p
 
 pub few_nodes : (rule : Rule) → length (nodes_in rule) ≤ 32
-few_nodes rule = let few = rule.few in omega (arith, length-take rule.count rule.nodes)
+few_nodes rule = items_few rule.nodes
 
 -- a loop has yielded one item more
 pub one_more : {X : Type 0} (P : ℕ → Type 0) (xs : List X) (x : X) → P (length xs + 1) → P (length (xs ++ x ∷ []))

@@ -1,5 +1,5 @@
 -- The pairs that are looked up are those of the rule. Assumes nothing.
-use Rattle.std.proofs.Common.{◌≡◌, ℕ, ◌%◌, ◌<◌, ◌≤◌, true, false, not, ◌&&◌, ◌||◌, Some, ltb, List, length, get_or, slice_get, refl, sym, ap, ◌∙◌, ap₂, inl, inr, arith, length-take}
+use Rattle.std.proofs.Common.{◌≡◌, ℕ, ◌%◌, ◌<◌, ◌≤◌, true, false, not, ◌&&◌, ◌||◌, Some, ltb, List, length, get_or, slice_get, refl, sym, ap, ◌∙◌, ap₂, inl, inr, arith}
 use Rattle.std.proofs.lemmas.Bool.{cases_lt, lt-ltb, le-ltb, cond-true}
 use Rattle.std.proofs.lemmas.List.{get_or_past}
 use Rattle.std.proofs.lemmas.Nat.{pow_pos}
@@ -26,16 +26,7 @@ use Rattle.translate.specs.Meaning.{rule_judges}
 
 -- a rule's nodes are those of a rule over its names
 pub ruled : (rule : Rule) → Ruled (length (names_in rule)) (nodes_in rule)
-ruled rule =
-    let some = rule.some in
-    let few = rule.few in
-    let size = rule.size in
-    record {
-      few_names = few_names rule;
-      some = omega (arith, length-take rule.count rule.nodes);
-      few_temporal = rule.temporal;
-      ordered = rule.sound;
-    }
+ruled rule = record { few_names = few_names rule; some = rule.some; few_temporal = rule.temporal; ordered = rule.sound }
 
 -- a pair that was looked up in the list as it is lent
 pub found_at : (xs ys : List Pair) (p : ℕ) (pair : Pair) → xs ≡ ys → p < length xs → pair ≡ get_or xs p pair → slice_get ys p ≡ Some pair
