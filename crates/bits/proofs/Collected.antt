@@ -1,5 +1,5 @@
 -- Numbers gathered from tests, bit by bit and joined. Assumes nothing.
-use Rattle.std.proofs.Common.{◌≡◌, ℕ, zero, suc, ◌+◌, ◌-◌, ◌^◌, ◌<◌, ◌≤◌, Bool, true, false, cond, not, ◌&&◌, ◌||◌, sym, refl, ap, ◌∙◌, subst, ap₂, inl, inr, add-one, arith}
+use Rattle.std.proofs.Common.{◌≡◌, ℕ, zero, suc, ◌+◌, ◌-◌, ◌^◌, ◌<◌, ◌≤◌, Bool, true, false, cond, not, ◌&&◌, ◌||◌, sym, ap, ◌∙◌, subst, ap₂, inl, inr, add-one, arith}
 use lib.Bits.{bit_and, bit_or, and_lt, or_lt}
 use Rattle.std.proofs.lemmas.Bool.{cases_lt}
 use Rattle.std.proofs.lemmas.Nat.{pow_pos}
@@ -7,16 +7,6 @@ use Rattle.ltl.specs.Words.{bit}
 use Rattle.bits.specs.Gathered.{gathered}
 use Rattle.bits.proofs.Bits.{bit_none, bit_put, bit_kept, put_below}
 use Rattle.bits.proofs.Joined.{bit_bit_and, bit_bit_or, bit_not, bits_same}
-
--- nothing yet
-pub gathered_none : (test : ℕ → Bool) (base : ℕ) → gathered test base 0 ≡ 0
-unfolding gathered
-gathered_none test base = refl
-
--- one bit more
-pub gathered_more : (test : ℕ → Bool) (base m : ℕ) → gathered test base (m + 1) ≡ gathered test base m + cond (test (base + m)) (2 ^ m) 0
-unfolding gathered
-gathered_more test base m = ap (gathered test base) (add-one m)
 
 -- it has m bits
 pub gathered_below : (test : ℕ → Bool) (base m : ℕ) → gathered test base m < 2 ^ m

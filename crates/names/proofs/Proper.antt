@@ -1,8 +1,8 @@
 -- Declaring a name keeps the names proper. Assumes nothing.
-use Rattle.std.proofs.Common.{◌≡◌, ℕ, suc, ◌+◌, ◌<◌, ◌≤◌, Bool, true, false, cond, not, ◌||◌, ltb, List, [], ◌∷◌, ◌++◌, length, Ok, sym, refl, ap, ◌∙◌, arith}
+use Rattle.std.proofs.Common.{◌≡◌, ℕ, suc, ◌+◌, ◌<◌, Bool, true, false, cond, not, ◌||◌, ltb, List, [], ◌∷◌, ◌++◌, length, Ok, sym, refl, ap, ◌∙◌, arith}
 use Rattle.std.specs.Str.{bytes_eq}
 use Rattle.std.proofs.lemmas.Slice.Eq.{bytes_eq-Decides}
-use Rattle.std.proofs.lemmas.Bool.{lt-ltb, le-leb, lt-leb, cond-true, cond-false, and_parts, and_from, or_parts, or_from, not_from_false, not_from_true, not-true}
+use Rattle.std.proofs.lemmas.Bool.{lt-ltb, lt-leb, cond-false, and_parts, and_from, or_parts, or_from, not_from_false, not_from_true, not-true}
 use Rattle.std.proofs.lemmas.Bool.Decides.{nat_tests, same_from_decides}
 use Rattle.refusal.specs.declared.Layer.TheVariants.{Names}
 use Rattle.refusal.specs.Answers.{refused}
@@ -40,13 +40,7 @@ proper_push (v ∷ vs) w p f h =
     (and_from _ _ (not_from_false _ (has_push vs w v (not-true _ back.0) (same_flip v w ∙ apart.0))) (proper_push vs w back.1 f apart.1))
 
 module _ (names : List (List ℕ)) (w : List ℕ) where
-  pub declared_full : 6 ≤ length names → declared names w ≡ refused 3 Names 6
-  declared_full h = cond-true _ _ _ (le-leb 6 (length names) h)
-
   module _ (room : length names < 6) where
-    pub declared_malformed : well_formed w ≡ false → declared names w ≡ refused 1 Names (length names)
-    declared_malformed f = cond-false _ _ _ (lt-leb 6 (length names) room) ∙ cond-true _ _ _ (not_from_false _ f)
-
     module _ (form : well_formed w ≡ true) where
       to_has : {x : Bool} → has names w ≡ x → declared names w ≡ cond x (refused 2 Names (length names)) (Ok (names ++ (w ∷ [])))
       to_has e = cond-false _ _ _ (lt-leb 6 (length names) room) ∙ cond-false _ _ _ (not_from_true _ form) ∙ ap (λ b. cond b (refused 2 Names (length names)) (Ok (names ++ (w ∷ [])))) e

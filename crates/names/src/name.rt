@@ -6,5 +6,5 @@ use few::Few;
 
 #[derive(Clone, Copy)]
 pub struct Name {
-    pub(crate) bytes: Few<u8, 8>,
+    pub bytes: Few<u8, 8>,
 }

@@ -1,6 +1,6 @@
 -- One level of the descent. Assumes nothing.
-use Rattle.std.proofs.Common.{◌≡◌, ℕ, zero, suc, ◌-◌, ◌<◌, List, Err, refl, ap, ◌∙◌, arith}
-use Rattle.refusal.specs.Answers.{Said, and_then}
+use Rattle.std.proofs.Common.{◌≡◌, ℕ, suc, ◌-◌, ◌<◌, List, refl, ap, ◌∙◌, arith}
+use Rattle.refusal.specs.Answers.{and_then}
 use Rattle.grammar.specs.Marks.{Placed}
 use Rattle.grammar.specs.Descent.{Held, lex, too_deep_at, rule_from, descend}
 
@@ -15,9 +15,3 @@ module _ (names : List (List ℕ)) (stop : ℕ) (h : Held) (ms : List Placed) wh
 
   pub one_level : (left : ℕ) → 0 < left → descend left names stop h ms ≡ and_then (lex stop ms) (λ x. rule_from (descend (left - 1) names stop) names stop h x x.mark)
   one_level left some = let e : left ≡ suc (left - 1) = omega arith in ap (λ n. descend n names stop h ms) e ∙ level (left - 1)
-
-  -- what the lexer refuses is refused at every depth
-  pub at_refusal : (left : ℕ) (e : Said) → Err e ≡ lex stop ms → Err e ≡ descend left names stop h ms
-  unfolding descend
-  at_refusal zero e h' = ap (λ r. and_then r too_deep_at) h'
-  at_refusal (suc left) e h' = ap (λ r. and_then r (λ x. rule_from (descend left names stop) names stop h x x.mark)) h'

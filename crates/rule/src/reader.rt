@@ -37,7 +37,7 @@ impl Reader<'_> {
         ensures { answer (λ k. k) result ≡ known (spelled_names self.now.names.now) word.now place }
     {
         match self.names.find(word) {
-            Some(k) => Ok(k as u8),
+            Some(k) => Ok(k as u8), // one of at most six
             None => Err(Refusal::new(Cause::UndeclaredName, Layer::Rule, place)),
         }
     }

@@ -33,7 +33,7 @@ impl Pool {
         ensures number { result ≡ (put node (held self.old)).1 }
     {
         if let Some(at) = self.find(node) {
-            return at as u8;
+            return at as u8; // one of at most 32, as below
         }
         let at = self.nodes.len();
         match self.nodes.push(node) {

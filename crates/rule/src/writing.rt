@@ -84,7 +84,7 @@ impl Rule {
         ensures after { out.new ≡ written_into self.now out.old }
         ensures trip { (text : List ℕ) → reading (names_in self.now) text ≡ Ok (nodes_in self.now) → Returns (names_in self.now) text (nodes_in self.now) }
     {
-        let root = (self.count() - 1) as u8;
+        let root = (self.count() - 1) as u8; // one of at most 32
         if out.len() < self.width(root) {
             return Err(Refusal::new(Cause::ShortOutput, Layer::Rule, 0));
         }

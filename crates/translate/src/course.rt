@@ -60,7 +60,7 @@ impl Course for RuleAcceptor {
         };
         State::Obliged {
             forecasts: self.carried(&set, a),
-            letter: a as u8,
+            letter: a as u8, // one of at most 64
         }
     }
 

@@ -10,14 +10,12 @@ impl Acceptor for RuleAcceptor {
     ghost judges = { rule_judges };
 
     fn pairs(&self) -> usize {
-        self.pairs.as_slice().len()
+        self.pairs.len()
     }
 
     fn visits(&self, pair: usize) -> usize {
-        match self.pairs.as_slice().get(pair) {
-            Some(pair) => pair.visits.as_slice().len(),
-            None => 0,
-        }
+        let pair = self.pairs.as_slice().get(pair);
+        pair.map_or(0, |pair| pair.visits.len())
     }
 
     // Not the start; an obligation that lacks the forecast, or a letter that breaks it.

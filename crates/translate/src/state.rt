@@ -3,7 +3,7 @@
 // A set of forecasts, a bit for each of 256.
 #[derive(Clone, Copy, PartialEq, Eq)]
 pub struct Forecasts {
-    pub(crate) words: [u64; 4],
+    pub words: [u64; 4],
 }
 
 // The start, or an obligation with the last letter. An obligation is a set of forecasts.
