@@ -14,8 +14,10 @@ impl Acceptor for RuleAcceptor {
     }
 
     fn visits(&self, pair: usize) -> usize {
-        let pair = self.pairs.as_slice().get(pair);
-        pair.map_or(0, |pair| pair.visits.len())
+        match self.pairs.as_slice().get(pair) {
+            Some(pair) => pair.visits.as_slice().len(),
+            None => 0,
+        }
     }
 
     // Not the start; an obligation that lacks the forecast, or a letter that breaks it.
