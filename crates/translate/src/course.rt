@@ -14,8 +14,7 @@ use bits::has_bit;
 impl RuleAcceptor {
     // The forecasts under which the rule holds at a letter.
     fn opening(&self, a: usize) -> Forecasts
-        requires { a < 2 ^ length (names_in self.now.rule) }
-        ensures { (K : ℕ) → K < 2 ^ temporals (nodes_in self.now.rule) → member result K ≡ holds_at (nodes_in self.now.rule) a K (length (nodes_in self.now.rule) - 1) }
+        ensures { a < 64 → (K : ℕ) → K < 2 ^ temporals (nodes_in self.now.rule) → member result K ≡ holds_at (nodes_in self.now.rule) a K (length (nodes_in self.now.rule) - 1) }
     {
         let rows = self.rows.as_slice();
         Forecasts::passing(
@@ -26,8 +25,8 @@ impl RuleAcceptor {
 
     // The possible forecasts whose recast by a letter is in a set.
     fn carried(&self, set: &Forecasts, a: usize) -> Forecasts
-        requires { a < 2 ^ length (names_in self.now.rule) }
-        ensures { result ≡ set_of (λ J. possible (length (names_in self.now.rule)) (nodes_in self.now.rule) J && member set.now (recast (nodes_in self.now.rule) a J)) }
+        requires { a < 64 }
+        ensures { a < 2 ^ length (names_in self.now.rule) → result ≡ set_of (λ J. possible (length (names_in self.now.rule)) (nodes_in self.now.rule) J && member set.now (recast (nodes_in self.now.rule) a J)) }
     {
         let rows = self.rows.as_slice();
         Forecasts::passing(rows.len(), |forecast| {

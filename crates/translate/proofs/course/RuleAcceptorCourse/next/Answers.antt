@@ -1,4 +1,5 @@
-use Rattle.std.proofs.Common.{◌≡◌, ◌%◌, ◌^◌, ◌&&◌, length, sym, ap, ◌∙◌, ap₂, mod-lt, mod-eq_of_lt}
+use Rattle.std.proofs.Common.{◌≡◌, ◌%◌, ◌^◌, ◌<◌, ◌&&◌, length, sym, ap, ◌∙◌, ap₂, subst, arith, mod-lt, mod-eq_of_lt}
+use Rattle.outlook.proofs.Ruled.{few_letters}
 use Rattle.std.proofs.lemmas.Nat.{pow_pos}
 use Rattle.rule.specs.Rules.{nodes_in, names_in}
 use Rattle.forecast.specs.Forecasts.{possible, recast}
@@ -18,11 +19,12 @@ returns c =
     let ns = nodes_in x.rule in
     let letter = c.args.letter in
     let a = c.from.result % c.letter_count.result in
+    let fits : a < 2 ^ n = subst (λ b. b < 2 ^ n) (sym (ap₂ ◌%◌ c.from.ensures c.letter_count.ensures.value)) (mod-lt letter (pow_pos n)) in
     let low : a ≡ letter % 2 ^ n = ap₂ ◌%◌ c.from.ensures c.letter_count.ensures.value in
     let next : Forecasts → State = λ set. Obliged (set_of (λ J. possible n ns J && member set (recast ns a J))) a in
     let by : State → State = λ s. stepped rule_states n ns s a in
-    let step : Obliged c.carried.result a ≡ by c.args.state.now = ap (λ s. Obliged s a) c.carried.ensures ∙ (elim c.match-state.branch [
-      | in-Start w ↦ ap next w.set-is ∙ first_step n ns a w.opening-set.result w.opening-set.ensures ∙ ap by (sym w.in-Start.is)
+    let step : Obliged c.carried.result a ≡ by c.args.state.now = ap (λ s. Obliged s a) (c.carried.ensures fits) ∙ (elim c.match-state.branch [
+      | in-Start w ↦ ap next w.set-is ∙ first_step n ns a w.opening-set.result (w.opening-set.ensures (omega (arith, few_letters x.rule))) ∙ ap by (sym w.in-Start.is)
       | in-Obliged w ↦ ap next w.set-is ∙ ap by (sym w.in-Obliged.is)
     ]) in
     let value = step ∙ ap (stepped rule_states n ns c.args.state.now) low in

@@ -5,13 +5,12 @@ use Rattle.ltl.specs.Arena.{temporals}
 use Rattle.bits.proofs.Collected.{gathered_at}
 use Rattle.rule.specs.Rules.{names_in, nodes_in}
 use Rattle.forecast.specs.Forecasts.{holds_at}
-use Rattle.outlook.proofs.Ruled.{few_letters}
 use Rattle.translate.specs.States.{member}
 use Rattle.translate.proofs.Looked.{absent_row, row_at}
 use Rattle.translate.proofs.held.RuleAcceptor.opening.Goals as goal
 
 pub returns : goal.returns
-returns c = λ K h.
+returns c = λ low K h.
     let x = c.args.self.now in
     let n = length (names_in x.rule) in
     let ns = nodes_in x.rule in
@@ -22,4 +21,4 @@ returns c = λ K h.
     let post = c.passing.ensures.answers K inside in
     let looked : member c.passing.result K ≡ bit a (get_or rows K absent_row).root = search rules in
     looked ∙ ap (λ xs. bit a (get_or xs K absent_row).root) same ∙ ap (bit a) (row_at n ns (2 ^ temporals ns) (items x.rows) x.tabled K h).root
-    ∙ gathered_at (λ b. holds_at ns b K (length ns - 1)) 64 a (omega (arith, few_letters x.rule))
+    ∙ gathered_at (λ b. holds_at ns b K (length ns - 1)) 64 a low
