@@ -6,20 +6,14 @@ use acceptor::{Acceptor, Judgement};
 use anyhow::{Context, anyhow};
 use evaluate::satisfies;
 use refusal::Refusal;
-use round::Round;
-use rule::Rule;
+use round::{MOST_LETTERS, Round};
+use rule::{LONGEST_TEXT, Rule};
 use translate::{RuleAcceptor, State};
 use turning::{MOST_PAIRS, TurnedState};
 use verdicts::{judge_bare, judge_turned};
 use support::{bytes_of, read_rule, written, yes_or_no};
 
 const TRAIL: usize = 256;
-
-// The longest written rule.
-const LONGEST_RULE: usize = 1024;
-
-// The most letters of a round.
-const LONGEST_ROUND: usize = 1024;
 
 fn print_straight(rt: &HostRuntime, verdict: Result<bool, Refusal>) -> anyhow::Result<()> {
     print!(rt; "straight ")?;
@@ -55,7 +49,7 @@ fn rule_of(line: &str) -> anyhow::Result<Rule> {
 
 fn print_rule(rt: &HostRuntime, rule: &Rule) -> anyhow::Result<()> {
     let pairs = RuleAcceptor::new(rule).pairs();
-    match written(rt.alloc(), rule, LONGEST_RULE)? {
+    match written(rt.alloc(), rule, LONGEST_TEXT)? {
         Ok(text) => Ok(println!(rt; "rule {text} pairs {pairs}")?),
         Err(refusal) => Ok(print!(rt; "{refusal}")?),
     }
@@ -92,7 +86,7 @@ fn check_round(rt: &HostRuntime, rule: &Rule, line: &str) -> anyhow::Result<()> 
         lead: lead.as_slice(),
         cycle: cycle.as_slice(),
     };
-    let mut row = vec![in rt.alloc(); 0u32; LONGEST_ROUND]?;
+    let mut row = vec![in rt.alloc(); 0u32; MOST_LETTERS]?;
     print_straight(rt, satisfies(rule, round, row.as_mut_slice()))?;
     let acceptor = RuleAcceptor::new(rule);
     print_bare(rt, &acceptor, round)?;

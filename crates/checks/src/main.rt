@@ -5,7 +5,7 @@ use anyhow::{Context, anyhow};
 use evaluate::satisfies;
 use refusal::Refusal;
 use round::Round;
-use rule::Rule;
+use rule::{LONGEST_TEXT, Rule};
 use sheet::Sheet;
 use support::{bytes_of, declare, read_rule, written, yes_or_no};
 
@@ -46,7 +46,7 @@ fn check_room(rt: &HostRuntime, line: &str) -> anyhow::Result<()> {
 
 fn print_sheet(rt: &HostRuntime, bytes: &[u8]) -> anyhow::Result<()> {
     match Sheet::read(bytes) {
-        Ok(sheet) => print_rule(rt, &sheet.rule, 1024),
+        Ok(sheet) => print_rule(rt, &sheet.rule, LONGEST_TEXT),
         Err(refusal) => Ok(println!(rt; "{refusal}")?),
     }
 }
@@ -59,7 +59,7 @@ fn check_cuts(rt: &HostRuntime, bytes: &[u8]) -> anyhow::Result<()> {
     Ok(())
 }
 
-// The sheet with every single bit turned over.
+// The sheet with every single bit turned over, by its place, since the whole sheet is read at each turn.
 fn check_flips(rt: &HostRuntime, mut bytes: Vec<u8>) -> anyhow::Result<()> {
     for i in 0..bytes.len() {
         for mask in [1, 2, 4, 8, 16, 32, 64, 128] {
@@ -112,7 +112,7 @@ fn check_line(rt: &HostRuntime, line: &str) -> anyhow::Result<()> {
     let (kind, rest) = line.split_once(' ').context("a line wants a kind")?;
     match kind {
         "names" => check_names(rt, rest),
-        "rule" => check_rule(rt, rest, 1024),
+        "rule" => check_rule(rt, rest, LONGEST_TEXT),
         "room" => check_room(rt, rest),
         "round" => check_round(rt, rest),
         "sheet" => print_sheet(rt, bytes_of(rt.alloc(), rest)?.as_slice()),

@@ -19,7 +19,7 @@ fn skip_blanks(text: &[u8], at: usize) -> usize
     at + blanks.count()
 }
 
-// How many letters and digits stand in front.
+// How many letters and digits stand in front: like the blanks above a chain of its own, since that is all that one over a test would be.
 fn run_length(bytes: &[u8]) -> usize
     ensures value { result ≡ prefix_len wordly bytes.now }
     ensures within { result ≤ length bytes.now }

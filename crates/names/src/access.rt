@@ -25,7 +25,7 @@ impl Names {
         self.list.len()
     }
 
-    // The bytes of name k, none where there is no such name.
+    // The bytes of name k, none where there is no such name: no Option, since this call never failed and no name is empty.
     pub fn get(&self, k: usize) -> &[u8]
         ensures { result.now ≡ slice_index_or (spelled_names self.now) k [] }
     {

@@ -3,7 +3,8 @@
 
 use evaluate::satisfies;
 use refusal::Refusal;
-use rule::Rule;
+use round::MOST_LETTERS;
+use rule::{LONGEST_TEXT, Rule};
 use sheet::Sheet;
 use std::io::Read;
 use support::{written, yes_or_no};
@@ -11,14 +12,8 @@ use support::{written, yes_or_no};
 // One byte more than a sheet may have, so that a longer one can be told.
 const ENOUGH: u64 = 8193;
 
-// The longest written rule.
-const LONGEST_RULE: usize = 1024;
-
-// The most letters of a round.
-const LONGEST_ROUND: usize = 1024;
-
 fn print_rule(rt: &HostRuntime, rule: &Rule) -> anyhow::Result<()> {
-    match written(rt.alloc(), rule, LONGEST_RULE)? {
+    match written(rt.alloc(), rule, LONGEST_TEXT)? {
         Ok(text) => Ok(println!(rt; "rule {text}")?),
         Err(refusal) => Ok(println!(rt; "{refusal}")?),
     }
@@ -40,7 +35,7 @@ fn print_round(
 }
 
 fn print_rounds(rt: &HostRuntime, sheet: &Sheet, bytes: &[u8]) -> anyhow::Result<()> {
-    let mut row = vec![in rt.alloc(); 0u32; LONGEST_ROUND]?;
+    let mut row = vec![in rt.alloc(); 0u32; MOST_LETTERS]?;
     for (k, round) in sheet.rounds(bytes).enumerate() {
         let verdict = satisfies(&sheet.rule, round, row.as_mut_slice());
         print_round(rt, k + 1, verdict)?;

@@ -8,6 +8,9 @@ ghost use Rattle.round.specs.Letters.{within, sound};
 
 use refusal::{Cause, Layer, Refusal};
 
+// The most letters of a round, lead-in and cycle together.
+pub const MOST_LETTERS: usize = 1024;
+
 // What may be a round: a lead-in and a cycle of any letters.
 #[derive(Clone, Copy, Debug)]
 pub struct Round<'a> {
@@ -38,7 +41,7 @@ impl Round<'_> {
     pub fn check(&self, n: usize) -> Result<(), Refusal>
         ensures { answer (λ u. u) result ≡ sound n self.now.lead.now self.now.cycle.now }
     {
-        if self.lead.len() + self.cycle.len() > 1024 {
+        if self.lead.len() + self.cycle.len() > MOST_LETTERS {
             return Err(Refusal::new(Cause::LongRound, Layer::Round, 0));
         }
         if self.cycle.is_empty() {

@@ -49,7 +49,7 @@ impl Rule {
         self.nodes.len()
     }
 
-    // Subformula k, the constant truth where there is no such subformula.
+    // Subformula k, the constant truth where there is no such subformula: no Option, since this call never failed.
     pub fn node(&self, k: usize) -> Node
         ensures { result ≡ slice_index_or (nodes_in self.now) k Node.True }
     {

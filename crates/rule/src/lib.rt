@@ -11,3 +11,4 @@ mod temporal;
 pub mod writing;
 
 pub use held::Rule;
+pub use reading::LONGEST_TEXT;

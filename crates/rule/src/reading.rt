@@ -14,6 +14,9 @@ use lexer::Lexer;
 use names::Names;
 use refusal::{Cause, Layer, Refusal};
 
+// The most bytes of a rule's text, and so of its written form.
+pub const LONGEST_TEXT: usize = 1024;
+
 // The subformulae of a whole text.
 fn read_text(names: &Names, text: &[u8]) -> Result<Pool, Refusal>
     ensures { answer held result ≡ whole_text (spelled_names names.now) text.now }
@@ -32,7 +35,7 @@ fn read_text(names: &Names, text: &[u8]) -> Result<Pool, Refusal>
 fn read_within(names: &Names, text: &[u8]) -> Result<Pool, Refusal>
     ensures { answer (λ p. (held p).nodes) result ≡ reading (spelled_names names.now) text.now }
 {
-    if text.len() > 1024 {
+    if text.len() > LONGEST_TEXT {
         return Err(Refusal::new(Cause::LongText, Layer::Rule, 0));
     }
     let pool = read_text(names, text)?;

@@ -27,7 +27,8 @@ impl Pool {
         nodes.iter().position(|known| node == *known)
     }
 
-    // The number of a node, which is put behind the others where it is new. Past the last place it is only noted that there are too many.
+    // The number of a node, which is put behind the others where it is new. Past the last place it is only noted that there are
+    // too many: reading goes on, and no number is looked at any more, so 0 will do for one.
     pub(crate) fn put(&mut self, node: Node) -> u8
         ensures after { held self.new ≡ (put node (held self.old)).0 }
         ensures number { result ≡ (put node (held self.old)).1 }

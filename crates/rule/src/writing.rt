@@ -10,7 +10,8 @@ use crate::held::Rule;
 use ltl::Node;
 use refusal::{Cause, Layer, Refusal};
 
-// Writes a word at a place, and gives the place behind it.
+// Writes a word at a place, and gives the place behind it. The place is handed on from call to call: an output with its place inside would have
+// to be taken apart in every clause.
 fn put(out: &mut [u8], at: usize, word: &[u8]) -> usize
     requires { at + length word.now ≤ length out.old }
     ensures { Wrote at word.now out.old result out.new }
@@ -53,15 +54,19 @@ impl Rule {
             }
             Node::And(i, j) => self.write_joined(i, b'&', j, out, at),
             Node::Or(i, j) => self.write_joined(i, b'|', j, out, at),
-            Node::Eventually(i) => {
-                let part = put(out, at, b"F");
-                self.write_part(i, out, part)
-            }
-            Node::Always(i) => {
-                let part = put(out, at, b"G");
-                self.write_part(i, out, part)
-            }
+            Node::Eventually(i) => self.write_behind(b'F', i, out, at),
+            Node::Always(i) => self.write_behind(b'G', i, out, at),
         }
+    }
+
+    // Writes a mark and a subformula behind it, and gives the place behind both.
+    #[cycle(writing)]
+    fn write_behind(&self, mark: u8, i: u8, out: &mut [u8], at: usize) -> usize
+        requires { (i < length (nodes_in self.now)) × (at + (1 + length (part_in self.now i)) ≤ length out.old) }
+        ensures { Wrote at (mark ∷ part_in self.now i) out.old result out.new }
+    {
+        let part = put(out, at, &[mark]);
+        self.write_part(i, out, part)
     }
 
     // Writes two subformulae in brackets with a mark between them, and gives the place behind.

@@ -14,8 +14,5 @@ write_joined-returns t c =
 pub write_part-returns-in-NotAtom : goal.write_part-returns-in-NotAtom
 write_part-returns-in-NotAtom t c = let p = part_at c.args.self.now c.args.k c.requires.0 c.from.ensures c.node.ensures c.in-NotAtom.is in wrote_as (sym p.is) (wrote_more (omega (arith, p.width)) c.put-name.ensures (wrote_as (c.get-in-NotAtom.ensures ∙ ap (λ n. get_or (names_in c.args.self.now) n []) c.from-in-NotAtom.ensures) c.put-in-NotAtom.ensures))
 
-pub write_part-returns-in-Eventually : goal.write_part-returns-in-Eventually
-write_part-returns-in-Eventually t c = let p = part_at c.args.self.now c.args.k c.requires.0 c.from.ensures c.node.ensures c.in-Eventually.is in wrote_as (sym p.is) (wrote_more (omega arith) c.put-part.ensures c.write_part.ensures)
-
-pub write_part-returns-in-Always : goal.write_part-returns-in-Always
-write_part-returns-in-Always t c = let p = part_at c.args.self.now c.args.k c.requires.0 c.from.ensures c.node.ensures c.in-Always.is in wrote_as (sym p.is) (wrote_more (omega arith) c.put-part-in-Always.ensures c.write_part-in-Always.ensures)
+pub write_behind-returns : goal.write_behind-returns
+write_behind-returns t c = wrote_more (omega arith) c.put-part.ensures c.write_part.ensures

@@ -7,3 +7,6 @@ decreases-write_joined l = 2 * max l.i l.j + 2
 
 abbrev pub decreases-write_part : goal.decreases-write_part
 decreases-write_part l = 2 * l.k + 1
+
+abbrev pub decreases-write_behind : goal.decreases-write_behind
+decreases-write_behind l = 2 * l.i + 2
