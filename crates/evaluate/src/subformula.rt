@@ -1,8 +1,8 @@
 // One subformula, and its bits in the working row: a word for each letter, whose bit k says that subformula k holds there.
-ghost use Rattle.std.specs.Prelude.{◌≡◌, ◌+◌, ◌^◌, ◌<◌, length, if◌then◌else◌};
+ghost use Rattle.std.specs.Prelude.{◌≡◌, ◌+◌, ◌^◌, ◌<◌, if◌then◌else◌};
 ghost use Rattle.std.specs.List.{list_any, list_all};
 ghost use Rattle.ltl.specs.Words.{bit};
-ghost use Rattle.evaluate.specs.Marks.{value, Settled, Below, Cycled, Led};
+ghost use Rattle.evaluate.specs.Marks.{value, Settled};
 
 use bits::{has_bit, with_bit};
 use ltl::Node;
@@ -46,7 +46,7 @@ impl Subformula {
     }
 
     // Whether an F or a G holds in the cycle: there it is the same at all positions, so one look over the cycle's words tells. Of others nothing is asked.
-    fn is_settled(&self, words: &[u32]) -> bool
+    pub(crate) fn is_settled(&self, words: &[u32]) -> bool
         ensures { Settled self.now.node words.now result }
     {
         match self.node {
@@ -57,39 +57,12 @@ impl Subformula {
     }
 
     // Puts the bit into the word of one letter, and says whether it is set.
-    fn mark(&self, letter: u8, next: bool, word: &mut u32) -> bool
+    pub(crate) fn mark(&self, letter: u8, next: bool, word: &mut u32) -> bool
         ensures value { result ≡ value self.now.node letter word.old next }
         ensures put { word.old < 2 ^ self.now.number → word.new ≡ word.old + (if result then 2 ^ self.now.number else 0) }
     {
         let is_set = self.holds(letter, *word, next);
         *word = with_bit(*word, self.number, is_set);
         is_set
-    }
-
-    // Puts the bit into the words of the cycle.
-    pub(crate) fn mark_cycle(&self, cycle: &[u8], words: &mut [u32])
-        requires room { length words.old ≡ length cycle.now }
-        requires below { Below self.now.number words.old }
-        ensures { Cycled self.now.node self.now.number cycle.now words.old words.new }
-    {
-        // the position behind any of the cycle is one of the cycle again
-        let next = self.is_settled(words);
-        // by an index, since a proof knows nothing of words that a zip lends
-        for (i, word) in words.iter_mut().enumerate() {
-            self.mark(cycle[i], next, word);
-        }
-    }
-
-    // Puts the bit into the words of the lead-in, backwards, since an F or a G goes by the position behind.
-    pub(crate) fn mark_lead(&self, lead: &[u8], behind: bool, words: &mut [u32])
-        requires room { length words.old ≡ length lead.now }
-        requires below { Below self.now.number words.old }
-        ensures { Led self.now.node self.now.number lead.now behind words.old words.new }
-    {
-        let mut next = behind;
-        // by an index, since a proof knows nothing of words that are lent in reverse
-        for i in (0..lead.len()).rev() {
-            next = self.mark(lead[i], next, &mut words[i]);
-        }
     }
 }

@@ -2,7 +2,7 @@
 ghost use Rattle.std.specs.Prelude.{◌≡◌, ◌+◌, ◌<◌, length};
 ghost use Rattle.refusal.specs.Answers.{answer};
 ghost use Rattle.rule.specs.Rules.{nodes_in, names_in, formula_in};
-ghost use Rattle.evaluate.specs.Marks.{Told};
+ghost use Rattle.evaluate.specs.Marks.{Below, Cycled, Led, Told};
 ghost use Rattle.evaluate.specs.Verdicts.{ready, Verdict};
 
 use crate::subformula::Subformula;
@@ -10,6 +10,35 @@ use bits::has_bit;
 use refusal::{Cause, Layer, Refusal};
 use round::Round;
 use rule::Rule;
+
+impl Subformula {
+    // Puts the bit into the words of the cycle.
+    fn mark_cycle(&self, cycle: &[u8], words: &mut [u32])
+        requires room { length words.old ≡ length cycle.now }
+        requires below { Below self.now.number words.old }
+        ensures { Cycled self.now.node self.now.number cycle.now words.old words.new }
+    {
+        // the position behind any of the cycle is one of the cycle again
+        let next = self.is_settled(words);
+        // by an index, since a proof knows nothing of words that a zip lends
+        for (i, word) in words.iter_mut().enumerate() {
+            self.mark(cycle[i], next, word);
+        }
+    }
+
+    // Puts the bit into the words of the lead-in, backwards, since an F or a G goes by the position behind.
+    fn mark_lead(&self, lead: &[u8], behind: bool, words: &mut [u32])
+        requires room { length words.old ≡ length lead.now }
+        requires below { Below self.now.number words.old }
+        ensures { Led self.now.node self.now.number lead.now behind words.old words.new }
+    {
+        let mut next = behind;
+        // by an index, since a proof knows nothing of words that are lent in reverse
+        for i in (0..lead.len()).rev() {
+            next = self.mark(lead[i], next, &mut words[i]);
+        }
+    }
+}
 
 // Fills the words of the letters, a subformula at a time; the parts of each come before it.
 fn fill(rule: &Rule, round: Round<'_>, row: &mut [u32])

@@ -1,5 +1,5 @@
 // The rule's automaton as a course: from an obligation to the next, by look-ups.
-ghost use Rattle.std.specs.Prelude.{◌≡◌, ℕ, ◌-◌, ◌^◌, ◌<◌, ◌&&◌, length};
+ghost use Rattle.std.specs.Prelude.{◌≡◌, ℕ, ◌-◌, ◌^◌, ◌<◌, ◌≤◌, ◌&&◌, length, nat_lt};
 ghost use Rattle.ltl.specs.Arena.{temporals};
 ghost use Rattle.rule.specs.Rules.{names_in, nodes_in};
 ghost use Rattle.forecast.specs.Forecasts.{holds_at, possible, recast};
@@ -10,6 +10,26 @@ use crate::held::RuleAcceptor;
 use crate::state::{Forecasts, State};
 use acceptor::Course;
 use bits::has_bit;
+
+impl Forecasts {
+    // The forecasts below a count that pass a test.
+    fn passing<F: Fn(u8) -> bool>(count: usize, test: F) -> Forecasts
+        requires few { count ≤ 256 }
+        requires can { (J : ℕ) → J < count → F.pre test J }
+        ensures answers { (J : ℕ) → J < count → F.post test J (member result J) }
+        ensures only { result ≡ set_of (λ J. nat_lt J count && member result J) }
+    {
+        let mut set = Forecasts::NONE;
+        // counted in a wider type, since a `u8` can't count to 256
+        for place in 0..count {
+            let forecast = place as u8;
+            if test(forecast) {
+                set.insert(forecast);
+            }
+        }
+        set
+    }
+}
 
 impl RuleAcceptor {
     // The forecasts under which the rule holds at a letter.

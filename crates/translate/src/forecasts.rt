@@ -1,5 +1,5 @@
 // Sets of forecasts.
-ghost use Rattle.std.specs.Prelude.{◌≡◌, ℕ, ◌<◌, ◌≤◌, ◌&&◌, ◌||◌, ◌==◌, length, nat_lt};
+ghost use Rattle.std.specs.Prelude.{◌≡◌, ℕ, ◌<◌, ◌||◌, ◌==◌};
 ghost use Rattle.std.specs.List.{list_any};
 ghost use Rattle.translate.specs.States.{member, set_of};
 
@@ -16,7 +16,7 @@ impl Forecasts {
         has_bit(self.words[place / 64], place % 64)
     }
 
-    fn insert(&mut self, forecast: u8)
+    pub(crate) fn insert(&mut self, forecast: u8)
         ensures { self.new ≡ set_of (λ J. (forecast == J) || member self.old J) }
     {
         let place = usize::from(forecast);
@@ -29,23 +29,5 @@ impl Forecasts {
         for forecast in forecasts {
             self.insert(*forecast);
         }
-    }
-
-    // The forecasts below a count that pass a test.
-    pub(crate) fn passing<F: Fn(u8) -> bool>(count: usize, test: F) -> Forecasts
-        requires few { count ≤ 256 }
-        requires can { (J : ℕ) → J < count → F.pre test J }
-        ensures answers { (J : ℕ) → J < count → F.post test J (member result J) }
-        ensures only { result ≡ set_of (λ J. nat_lt J count && member result J) }
-    {
-        let mut set = Forecasts::NONE;
-        // counted in a wider type, since a `u8` can't count to 256
-        for place in 0..count {
-            let forecast = place as u8;
-            if test(forecast) {
-                set.insert(forecast);
-            }
-        }
-        set
     }
 }
