@@ -5,38 +5,14 @@
 use acceptor::{Acceptor, Judgement};
 use anyhow::{Context, anyhow};
 use evaluate::satisfies;
-use refusal::Refusal;
 use round::{MOST_LETTERS, Round};
 use rule::{LONGEST_TEXT, Rule};
+use support::{Answer, bytes_of, read_rule, written, yes_or_no};
 use translate::{RuleAcceptor, State};
 use turning::{MOST_PAIRS, TurnedState};
 use verdicts::{judge_bare, judge_turned};
-use support::{bytes_of, read_rule, written, yes_or_no};
 
 const TRAIL: usize = 256;
-
-fn print_straight(rt: &HostRuntime, verdict: Result<bool, Refusal>) -> anyhow::Result<()> {
-    print!(rt; "straight ")?;
-    match verdict {
-        Ok(verdict) => {
-            let word = yes_or_no(verdict);
-            Ok(print!(rt; "{word}")?)
-        }
-        Err(refusal) => Ok(print!(rt; "{refusal}")?),
-    }
-}
-
-fn print_judged(
-    rt: &HostRuntime,
-    way: &str,
-    judged: Result<Judgement, Refusal>,
-) -> anyhow::Result<()> {
-    print!(rt; " {way} ")?;
-    match judged {
-        Ok(judgement) => Ok(print!(rt; "{judgement}")?),
-        Err(refusal) => Ok(print!(rt; "{refusal}")?),
-    }
-}
 
 // A rule that the table takes for granted is read, or what it was refused with is the program's end.
 fn rule_of(line: &str) -> anyhow::Result<Rule> {
@@ -55,26 +31,36 @@ fn print_rule(rt: &HostRuntime, rule: &Rule) -> anyhow::Result<()> {
     }
 }
 
-fn print_bare(rt: &HostRuntime, acceptor: &RuleAcceptor, round: Round<'_>) -> anyhow::Result<()> {
-    let mut trail = vec![in rt.alloc(); State::Start; TRAIL]?;
-    print_judged(
-        rt,
-        "bare",
-        judge_bare(acceptor, round, trail.as_mut_slice()),
-    )
+fn judge_straight(
+    rt: &HostRuntime,
+    rule: &Rule,
+    round: Round<'_>,
+) -> anyhow::Result<Answer<&'static str>> {
+    let mut row = vec![in rt.alloc(); 0u32; MOST_LETTERS]?;
+    let verdict = satisfies(rule, round, row.as_mut_slice());
+    Ok(Answer(verdict.map(yes_or_no)))
 }
 
-fn print_turned(rt: &HostRuntime, acceptor: &RuleAcceptor, round: Round<'_>) -> anyhow::Result<()> {
+fn judge_by_bare(
+    rt: &HostRuntime,
+    acceptor: &RuleAcceptor,
+    round: Round<'_>,
+) -> anyhow::Result<Answer<Judgement>> {
+    let mut trail = vec![in rt.alloc(); State::Start; TRAIL]?;
+    Ok(Answer(judge_bare(acceptor, round, trail.as_mut_slice())))
+}
+
+fn judge_by_turned(
+    rt: &HostRuntime,
+    acceptor: &RuleAcceptor,
+    round: Round<'_>,
+) -> anyhow::Result<Answer<Judgement>> {
     let unused = TurnedState {
         inner: State::Start,
         turns: [0; MOST_PAIRS],
     };
     let mut trail = vec![in rt.alloc(); unused; TRAIL]?;
-    print_judged(
-        rt,
-        "turned",
-        judge_turned(acceptor, round, trail.as_mut_slice()),
-    )
+    Ok(Answer(judge_turned(acceptor, round, trail.as_mut_slice())))
 }
 
 // LEAD-IN:CYCLE, judged by the rule above it
@@ -86,12 +72,11 @@ fn check_round(rt: &HostRuntime, rule: &Rule, line: &str) -> anyhow::Result<()> 
         lead: lead.as_slice(),
         cycle: cycle.as_slice(),
     };
-    let mut row = vec![in rt.alloc(); 0u32; MOST_LETTERS]?;
-    print_straight(rt, satisfies(rule, round, row.as_mut_slice()))?;
     let acceptor = RuleAcceptor::new(rule);
-    print_bare(rt, &acceptor, round)?;
-    print_turned(rt, &acceptor, round)?;
-    Ok(println!(rt; "")?)
+    let straight = judge_straight(rt, rule, round)?;
+    let bare = judge_by_bare(rt, &acceptor, round)?;
+    let turned = judge_by_turned(rt, &acceptor, round)?;
+    Ok(println!(rt; "straight {straight} bare {bare} turned {turned}")?)
 }
 
 fn main(rt: HostRuntime) -> anyhow::Result<()> {

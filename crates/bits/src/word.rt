@@ -16,6 +16,7 @@ pub trait Word: Copy {
         ensures { k < width → number self < 2 ^ k → number result ≡ number self + 2 ^ k };
 }
 
+// One impl for each width: a macro may not write them.
 impl Word for u8 {
     ghost number = { λ w. w };
 

@@ -3,18 +3,15 @@
 
 use anyhow::{Context, anyhow};
 use evaluate::satisfies;
-use refusal::Refusal;
 use round::Round;
 use rule::{LONGEST_TEXT, Rule};
 use sheet::Sheet;
-use support::{bytes_of, declare, read_rule, written, yes_or_no};
+use support::{Answer, bytes_of, declare, read_rule, rule_line, yes_or_no};
 
 // A rule, written into an output with this much room.
 fn print_rule(rt: &HostRuntime, rule: &Rule, room: usize) -> anyhow::Result<()> {
-    match written(rt.alloc(), rule, room)? {
-        Ok(text) => Ok(println!(rt; "rule {text}")?),
-        Err(refusal) => Ok(println!(rt; "{refusal}")?),
-    }
+    let line = rule_line(rt.alloc(), rule, room)?;
+    Ok(println!(rt; "{line}")?)
 }
 
 // NAMES alone
@@ -95,17 +92,9 @@ fn check_round(rt: &HostRuntime, line: &str) -> anyhow::Result<()> {
         lead: lead.as_slice(),
         cycle: cycle.as_slice(),
     };
-    print_verdict(rt, satisfies(&rule, round, row.as_mut_slice()))
-}
-
-fn print_verdict(rt: &HostRuntime, verdict: Result<bool, Refusal>) -> anyhow::Result<()> {
-    match verdict {
-        Ok(verdict) => {
-            let word = yes_or_no(verdict);
-            Ok(println!(rt; "{word}")?)
-        }
-        Err(refusal) => Ok(println!(rt; "{refusal}")?),
-    }
+    let verdict = satisfies(&rule, round, row.as_mut_slice());
+    let answer = Answer(verdict.map(yes_or_no));
+    Ok(println!(rt; "{answer}")?)
 }
 
 fn check_line(rt: &HostRuntime, line: &str) -> anyhow::Result<()> {

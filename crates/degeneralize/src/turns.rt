@@ -12,7 +12,7 @@ pub fn turn_of(turns: &[u8; MOST_PAIRS], pair: usize) -> u8
     turns.get(pair).copied().unwrap_or(0)
 }
 
-// A pair's turn after the state is left.
+// A pair's turn after the state is left. A state says nothing without its acceptor, so both are given, as they are at an acceptor's own questions.
 fn turn_after<A: Acceptor>(inner: &A, pair: usize, state: &A::State, turn: u8) -> u8
     ensures { result ≡ next_turn (A.Acceptor.judges inner.now) pair state.now turn }
 {

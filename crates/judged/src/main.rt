@@ -8,6 +8,7 @@ ghost use Rattle.std.specs.Prelude.{◌≤◌, length};
 use acceptor::judge::judge;
 use counter::{Counter, Pair};
 use round::Round;
+use support::Answer;
 
 // Lead-in and cycle come apart, so that each case below is one line.
 fn show(
@@ -18,11 +19,8 @@ fn show(
     places: usize,
 ) -> anyhow::Result<()> {
     let mut trail = vec![in rt.alloc(); 0u8; places]?;
-    match judge(counter, Round { lead, cycle }, trail.as_mut_slice()) {
-        Ok(judgement) => println!(rt; "{judgement}")?,
-        Err(refusal) => println!(rt; "{refusal}")?,
-    }
-    Ok(())
+    let answer = Answer(judge(counter, Round { lead, cycle }, trail.as_mut_slice()));
+    Ok(println!(rt; "{answer}")?)
 }
 
 // Three states in a ring: a cycle of one step comes again after three passes.

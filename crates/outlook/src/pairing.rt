@@ -35,7 +35,7 @@ impl Outlook<'_> {
         part(&self.words, q)
     }
 
-    // Where a `G q` is within the forecast, the letters at which q fails.
+    // Where a `G q` is within the forecast, the letters at which q fails. A node and whether it is inside stay two values: the clauses name them apart.
     // Apart from `holding`: one function over both would be told kind, side and letters, and say less.
     fn failing(&self, inside: bool, node: Node) -> u64
         ensures { result ≡ (if inside then letters_on_g (λ q. others (slice_index self.now.words q)) node else 0) }

@@ -2,43 +2,27 @@
 #![tactic(auto)]
 
 use evaluate::satisfies;
-use refusal::Refusal;
 use round::MOST_LETTERS;
 use rule::{LONGEST_TEXT, Rule};
 use sheet::Sheet;
 use std::io::Read;
-use support::{written, yes_or_no};
+use support::{Answer, rule_line, yes_or_no};
 
 // One byte more than a sheet may have, so that a longer one can be told.
 const ENOUGH: u64 = 8193;
 
 fn print_rule(rt: &HostRuntime, rule: &Rule) -> anyhow::Result<()> {
-    match written(rt.alloc(), rule, LONGEST_TEXT)? {
-        Ok(text) => Ok(println!(rt; "rule {text}")?),
-        Err(refusal) => Ok(println!(rt; "{refusal}")?),
-    }
-}
-
-fn print_round(
-    rt: &HostRuntime,
-    number: usize,
-    verdict: Result<bool, Refusal>,
-) -> anyhow::Result<()> {
-    print!(rt; "round {number} ")?;
-    match verdict {
-        Ok(verdict) => {
-            let word = yes_or_no(verdict);
-            Ok(println!(rt; "{word}")?)
-        }
-        Err(refusal) => Ok(println!(rt; "{refusal}")?),
-    }
+    let line = rule_line(rt.alloc(), rule, LONGEST_TEXT)?;
+    Ok(println!(rt; "{line}")?)
 }
 
 fn print_rounds(rt: &HostRuntime, sheet: &Sheet, bytes: &[u8]) -> anyhow::Result<()> {
     let mut row = vec![in rt.alloc(); 0u32; MOST_LETTERS]?;
     for (k, round) in sheet.rounds(bytes).enumerate() {
+        let number = k + 1;
         let verdict = satisfies(&sheet.rule, round, row.as_mut_slice());
-        print_round(rt, k + 1, verdict)?;
+        let answer = Answer(verdict.map(yes_or_no));
+        println!(rt; "round {number} {answer}")?;
     }
     Ok(())
 }

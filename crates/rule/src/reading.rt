@@ -31,7 +31,7 @@ fn read_text(names: &Names, text: &[u8]) -> Result<Pool, Refusal>
     Ok(reader.pool)
 }
 
-// The subformulae of a text that keeps within all limits.
+// The subformulae of a text that keeps within all limits. Names and text are handed down as they came; in a `Reader` they are one value.
 fn read_within(names: &Names, text: &[u8]) -> Result<Pool, Refusal>
     ensures { answer (λ p. (held p).nodes) result ≡ reading (spelled_names names.now) text.now }
 {

@@ -1,10 +1,11 @@
 // What the programs share: reading names, rules and letters as their tables write them, and a rule's written text.
 #![tactic(auto)]
 
-ghost use Rattle.std.specs.Prelude.{◌≡◌, ◌<◌, [], codes, if◌then◌else◌, IfOk, length, string_bytes};
+ghost use Rattle.std.specs.Prelude.{◌≡◌, ◌<◌, ◌++◌, [], codes, if◌then◌else◌, IfOk, length, string_bytes};
 ghost use Rattle.refusal.specs.Answers.{answer, and_then};
 ghost use Rattle.grammar.specs.Descent.{reading};
 ghost use Rattle.names.specs.Listed.{spelled_names};
+ghost use Rattle.support.specs.Printed.{answer_output};
 ghost use Rattle.support.specs.Tables.{bytes_in, declared_all, digit_in, listed};
 ghost use Rattle.rule.specs.Rules.{nodes_in, names_in};
 ghost use Rattle.rule.specs.Written.{word_in, writing};
@@ -13,6 +14,7 @@ use names::Names;
 use refusal::Refusal;
 use rule::Rule;
 use std::alloc::Allocator;
+use std::fmt;
 
 // Names with commas between them; an empty text has none.
 pub fn declare(words: &str) -> Result<Names, Refusal>
@@ -81,9 +83,38 @@ pub fn written<A: Allocator>(
     }
 }
 
+// The line of a rule: its written text, or the refusal where there is too little room.
+pub fn rule_line<A: Allocator + Copy>(
+    alloc: A,
+    rule: &Rule,
+    room: usize,
+) -> anyhow::Result<String<A>>
+    ensures { IfOk result (λ line. IfOk (writing rule.now room) (λ _. string_bytes line ≡ codes "rule " ++ word_in rule.now)) }
+{
+    match written(alloc, rule, room)? {
+        Ok(text) => Ok(format!(in alloc; "rule {text}")?),
+        Err(refusal) => Ok(format!(in alloc; "{refusal}")?),
+    }
+}
+
 // How a verdict is printed.
 pub fn yes_or_no(verdict: bool) -> &'static str
     ensures { result.now ≡ (if verdict then codes "yes" else codes "no") }
 {
     if verdict { "yes" } else { "no" }
+}
+
+// What came of a question, as it is printed: the answer, or the refusal.
+#[derive(Clone, Copy, Debug)]
+pub struct Answer<T>(pub Result<T, Refusal>);
+
+impl<T: fmt::Display> fmt::Display for Answer<T> {
+    ghost output = { λ a. answer_output T.output a.0 };
+
+    fn fmt<W: fmt::Write>(&self, f: &mut fmt::Formatter<W>) -> fmt::Result {
+        match &self.0 {
+            Ok(answer) => answer.fmt(f),
+            Err(refusal) => refusal.fmt(f),
+        }
+    }
 }
