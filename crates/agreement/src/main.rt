@@ -17,10 +17,7 @@ const TRAIL: usize = 256;
 // A rule that the table takes for granted is read, or what it was refused with is the program's end.
 fn rule_of(line: &str) -> anyhow::Result<Rule> {
     let (words, text) = line.split_once(':').context("a rule wants names:text")?;
-    match read_rule(words, text) {
-        Ok(rule) => Ok(rule),
-        Err(_) => Err(anyhow!("the rule is refused")),
-    }
+    read_rule(words, text).map_err(|_| anyhow!("the rule is refused"))
 }
 
 fn print_rule(rt: &HostRuntime, rule: &Rule) -> anyhow::Result<()> {

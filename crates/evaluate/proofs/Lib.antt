@@ -1,2 +1,3 @@
 pub mod Marking
 pub mod Truths
+pub mod Placed

@@ -1,12 +1,8 @@
 -- What the bits of a row tell of a round's word. Assumes nothing.
 use Rattle.std.proofs.Common.{◌≡◌, ℕ, zero, suc, ◌+◌, ◌-◌, ◌^◌, ◌<◌, ◌≤◌, Bool, true, cond, ◌&&◌, ◌||◌, ◌++◌, List, map, length, get_or, Decides, sym, refl, ap, ◌∙◌, subst, inl, inr, add-one, arith, length-append}
-use Rattle.std.specs.List.{list_any, list_all}
 use Rattle.std.proofs.lemmas.Bool.{cases_lt, cases_eq, true≢false, not-true, not_from_false}
 use Rattle.std.proofs.lemmas.Bool.Decides.{Decides-and, Decides-or, Decides-like, Decides-at}
-use Rattle.std.proofs.lemmas.List.{get_or_read, get_or_append_left, get_or-append_right, get_or-map, get_or_past, length-map}
-use Rattle.std.proofs.lemmas.List.Elements.{All-get_or, All-from_get_or}
-use Rattle.std.proofs.lemmas.List.Folds.{Any-from_list_any, list_any_at}
-use Rattle.std.proofs.lemmas.List.Sums.{AllPass-from_list_all, list_all-from_AllPass}
+use Rattle.std.proofs.lemmas.List.{get_or_append_left, get_or-append_right, get_or-map, get_or_past, length-map}
 use Rattle.ltl.specs.declared.Node.{Node}
 use Rattle.ltl.specs.declared.Node.TheVariants.{True, False, Atom, NotAtom, And, Or, Eventually, Always}
 use Rattle.ltl.specs.Formula.{Formula}
@@ -67,19 +63,6 @@ value_right known k (Always a) w i letter word next f e p t =
     let u = (unrolling (get_or known a bottom) w i).lasting in
     Decides-like (bit a word && next) u.1 u.0 (Decides-and (bit a word) next (p a f) t)
 
--- whether some word has a bit, and whether all have it, by their places
-any_placed : (p : ℕ → Bool) (words : List ℕ) → Decides (list_any p words) ((j : ℕ) × (j < length words) × (p (get_or words j 0) ≡ true))
-any_placed p words = (
-  λ e. let a = Any-from_list_any p words e in (a.0, a.2, ap p (sym (get_or_read words a.0 a.1 a.2 (sym a.3) 0)) ∙ a.4),
-  λ x. list_any_at p words x.0 0 x.1 x.2,
-)
-
-all_placed : (p : ℕ → Bool) (words : List ℕ) → Decides (list_all p words) ((j : ℕ) → j < length words → p (get_or words j 0) ≡ true)
-all_placed p words = (
-  λ e j l. All-get_or (λ x. p x ≡ true) words j 0 l (AllPass-from_list_all p words e),
-  λ f. list_all-from_AllPass p words (All-from_get_or (λ x. p x ≡ true) words 0 f),
-)
-
 -- one look over the cycle's words tells of every position behind one in the cycle
 settled_tells : (known : List (Formula ℕ)) (k : ℕ) (node : Node) (lead cycle words : List ℕ) (b : Bool) → 0 < length cycle → Fits k node
     → length words ≡ length cycle → ((j : ℕ) → j < length cycle → Parts known k (spelling lead cycle) (length lead + j) (get_or words j 0))
@@ -95,29 +78,27 @@ settled_tells known k (Eventually a) lead cycle words b pos f z p s i h =
     let φ = get_or known a bottom in
     let n = length lead in
     let e = settled_eventual φ w n (length cycle) pos (rounds_repeat lead cycle pos) (suc i) (omega arith) in
-    let d = any_placed (bit a) words in
-    let here : list_any (bit a) words ≡ true → Somewhere (Sat φ w) n (n + length cycle) =
-    λ x. let q = d.0 x in (n + q.0, omega arith, omega (arith, q.1), (p q.0 (omega (arith, q.1)) a f).0 q.2) in
-    let back : Somewhere (Sat φ w) n (n + length cycle) → list_any (bit a) words ≡ true =
+    let here : (j : ℕ) × (j < length words) × (bit a (get_or words j 0) ≡ true) → Somewhere (Sat φ w) n (n + length cycle) =
+    λ q. (n + q.0, omega arith, omega (arith, q.1), (p q.0 (omega (arith, q.1)) a f).0 q.2) in
+    let back : Somewhere (Sat φ w) n (n + length cycle) → (j : ℕ) × (j < length words) × (bit a (get_or words j 0) ≡ true) =
     λ x.
     let j = x.0 - n in
     let at : x.0 ≡ n + j = omega (arith, x.1) in
-    d.1 (j, omega (arith, x.1, x.2), (p j (omega (arith, x.1, x.2)) a f).1 (subst (Sat φ w) at x.3)) in
-    Decides-at b (list_any (bit a) words) s (λ x. e.1 (here x), λ x. back (e.0 x))
+    (j, omega (arith, x.1, x.2), (p j (omega (arith, x.1, x.2)) a f).1 (subst (Sat φ w) at x.3)) in
+    Decides-like b (λ x. e.1 (here x)) (λ x. back (e.0 x)) s
 settled_tells known k (Always a) lead cycle words b pos f z p s i h =
     let w = spelling lead cycle in
     let φ = get_or known a bottom in
     let n = length lead in
     let e = settled_always φ w n (length cycle) pos (rounds_repeat lead cycle pos) (suc i) (omega arith) in
-    let d = all_placed (bit a) words in
-    let here : list_all (bit a) words ≡ true → Throughout (Sat φ w) n (n + length cycle) =
+    let here : ((j : ℕ) → j < length words → bit a (get_or words j 0) ≡ true) → Throughout (Sat φ w) n (n + length cycle) =
     λ x m l r.
     let j = m - n in
     let at : n + j ≡ m = omega arith in
-    subst (Sat φ w) at ((p j (omega arith) a f).0 (d.0 x j (omega arith))) in
-    let back : Throughout (Sat φ w) n (n + length cycle) → list_all (bit a) words ≡ true =
-    λ x. d.1 (λ j l. (p j (omega arith) a f).1 (x (n + j) (omega arith) (omega arith))) in
-    Decides-at b (list_all (bit a) words) s (λ x. e.1 (here x), λ x. back (e.0 x))
+    subst (Sat φ w) at ((p j (omega arith) a f).0 (x j (omega arith))) in
+    let back : Throughout (Sat φ w) n (n + length cycle) → (j : ℕ) → j < length words → bit a (get_or words j 0) ≡ true =
+    λ x j l. (p j (omega arith) a f).1 (x (n + j) (omega arith) (omega arith)) in
+    Decides-like b (λ x. e.1 (here x)) (λ x. back (e.0 x)) s
 
 -- one subformula more
 module _ (ns : List Node) (lead cycle : List ℕ) (k : ℕ) (lead_words cycle_words lead_now cycle_now : List ℕ) (pos : 0 < length cycle) (h : k < length ns)

@@ -1,6 +1,5 @@
 -- The working row: a word for each letter, whose bit k says that subformula k holds there.
 use Rattle.std.specs.Prelude.{◌≡◌, ℕ, ◌+◌, ◌^◌, ◌<◌, Bool, true, false, cond, not, ◌&&◌, ◌||◌, List, length, map, Decides, slice_index, slice_index_or}
-use Rattle.std.specs.List.{list_any, list_all}
 use Rattle.ltl.specs.declared.Node.{Node}
 use Rattle.ltl.specs.declared.Node.TheVariants.{True, False, Atom, NotAtom, And, Or, Eventually, Always}
 use Rattle.ltl.specs.Formula.Formula.{bottom}
@@ -27,8 +26,8 @@ Settled (Atom a) words b = Unit {0}
 Settled (NotAtom a) words b = Unit {0}
 Settled (And i j) words b = Unit {0}
 Settled (Or i j) words b = Unit {0}
-Settled (Eventually i) words b = b ≡ list_any (bit i) words
-Settled (Always i) words b = b ≡ list_all (bit i) words
+Settled (Eventually i) words b = Decides b ((j : ℕ) × (j < length words) × (bit i (slice_index words j) ≡ true))
+Settled (Always i) words b = Decides b ((j : ℕ) → j < length words → bit i (slice_index words j) ≡ true)
 
 -- each word is below 2 ^ k
 abbrev pub Below : ℕ → List ℕ → Type 0

@@ -46,6 +46,7 @@ impl Subformula {
     }
 
     // Whether an F or a G holds in the cycle: there it is the same at all positions, so one look over the cycle's words tells. Of others nothing is asked.
+    #[tactic(auto, using(crate::proofs::Placed::eventual_settled, crate::proofs::Placed::lasting_settled))]
     pub(crate) fn is_settled(&self, words: &[u32]) -> bool
         ensures { Settled self.now.node words.now result }
     {

@@ -1,4 +1,5 @@
-// At most N items. What stands in the places behind them means nothing.
+// At most N items. What stands in the places behind them means nothing. (The kit's `arrayvec` has such a list, which is not `Copy`, as names and
+// rules are.)
 ghost use Rattle.std.specs.Prelude.{◌≡◌, ◌≤◌, ⊤};
 
 use std::alloc::AllocError;
@@ -9,6 +10,7 @@ pub struct Few<T, const N: usize> {
     ghost few: { count ≤ N },
 }
 
+// By hand, since no derive over a type parameter takes a ghost field.
 impl<T: Copy, const N: usize> Clone for Few<T, N> {
     ghost is_clone = { λ list copy. copy ≡ list };
 

@@ -6,7 +6,7 @@ ghost use Rattle.ltl.specs.Arena.{same_node, join_node, temporal};
 ghost use Rattle.ltl.specs.Laws.{Numbering};
 ghost use Rattle.ltl.specs.Rounds.{RoundsRepeat, Settling, Unrolling};
 
-// One subformula, its parts named by smaller numbers; an atom is a name's number.
+// One subformula, its parts named by smaller numbers, and not by boxes, since the library allocates nothing; an atom is a name's number.
 #[derive(Clone, Copy, Debug, PartialEq, Eq)]
 pub enum Node {
     True,

@@ -14,7 +14,7 @@ use few::{Few, Full};
 use refusal::{Cause, Layer, Refusal};
 
 impl Name {
-    // A word of at most 8 bytes as a name.
+    // A word of at most 8 bytes as a name: no `TryFrom`, since not every such word may be declared.
     fn of(word: &[u8]) -> Result<Name, Full>
         ensures room { IsOk result ↔ (length word.now ≤ 8) }
         ensures bytes { IfOk result (λ name. spelled name ≡ word.now) }

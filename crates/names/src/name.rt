@@ -1,6 +1,4 @@
 // One name, by its bytes.
-ghost use Rattle.std.specs.Prelude.{◌≡◌, ◌≤◌, length};
-ghost use Rattle.names.specs.Spelled.{spelled};
 
 use few::Few;
 

@@ -12,7 +12,7 @@ use rule::Rule;
 pub(crate) struct Outlook<'a> {
     pub(crate) rule: &'a Rule,
     pub(crate) forecast: u8,
-    // the letters at which each subformula holds
+    // the letters at which each subformula holds, in fixed places, since the library allocates nothing
     pub(crate) words: [u64; 32],
     ghost told: { Told Kept (nodes_in rule.now) forecast (length (nodes_in rule.now)) words },
 }

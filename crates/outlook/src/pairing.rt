@@ -166,7 +166,7 @@ pub fn forecast_count(rule: &Rule) -> usize
     1 << rule.temporals()
 }
 
-// The letters at which the rule holds under a forecast.
+// The letters at which the rule holds under a forecast. Callers have the two apart; inside they are an outlook.
 pub fn rule_letters(rule: &Rule, forecast: u8) -> u64
     ensures { result ≡ letters_where (λ a. holds_at (nodes_in rule.now) a forecast (length (nodes_in rule.now) - 1)) }
 {

@@ -4,12 +4,12 @@
 use evaluate::satisfies;
 use round::MOST_LETTERS;
 use rule::{LONGEST_TEXT, Rule};
-use sheet::Sheet;
+use sheet::{MOST_BYTES, Sheet};
 use std::io::Read;
 use support::{Answer, rule_line, yes_or_no};
 
 // One byte more than a sheet may have, so that a longer one can be told.
-const ENOUGH: u64 = 8193;
+const ENOUGH: u64 = MOST_BYTES as u64 + 1;
 
 fn print_rule(rt: &HostRuntime, rule: &Rule) -> anyhow::Result<()> {
     let line = rule_line(rt.alloc(), rule, LONGEST_TEXT)?;

@@ -74,7 +74,7 @@ impl Cause {
 }
 
 impl Layer {
-    // The word that a report prints.
+    // The word that a report prints: a table of words, which no derive prints so.
     pub fn name(self) -> &'static str
         ensures { result.now ≡ layer_name self }
     {

@@ -6,4 +6,5 @@ pub mod reading;
 pub mod turns;
 pub mod view;
 
+pub use reading::MOST_BYTES;
 pub use view::{Rounds, Sheet};

@@ -19,7 +19,7 @@ use refusal::{Cause, Layer, Refusal};
 use rule::Rule;
 
 // The most bytes of a sheet.
-const MOST_BYTES: usize = 8192;
+pub const MOST_BYTES: usize = 8192;
 
 // A cut field and a refusal are both types of other crates, so no `From` can turn one into the other here.
 fn misplaced(place: usize) -> Refusal

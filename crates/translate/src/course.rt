@@ -72,10 +72,7 @@ impl Course for RuleAcceptor {
         let a = usize::from(letter) % self.rule.letter_count();
         let set = match *state {
             State::Start => self.opening(a),
-            State::Obliged {
-                forecasts,
-                letter: _,
-            } => forecasts,
+            State::Obliged { forecasts, .. } => forecasts,
         };
         State::Obliged {
             forecasts: self.carried(&set, a),

@@ -31,13 +31,9 @@ impl Acceptor for RuleAcceptor {
     // Not the start; a letter of the set.
     fn visited(&self, pair: usize, set: usize, state: &State) -> bool {
         match (self.pairs.as_slice().get(pair), *state) {
-            (
-                Some(pair),
-                State::Obliged {
-                    forecasts: _,
-                    letter,
-                },
-            ) => in_set(pair.visits.as_slice(), set, letter),
+            (Some(pair), State::Obliged { letter, .. }) => {
+                in_set(pair.visits.as_slice(), set, letter)
+            }
             _ => false,
         }
     }
