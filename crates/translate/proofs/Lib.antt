@@ -1,4 +1,5 @@
 pub mod Members
 pub mod Looked
+pub mod Counting
 pub mod Stepping
 pub mod Answering

@@ -20,9 +20,7 @@ impl Forecasts {
         ensures only { result ≡ set_of (λ J. nat_lt J count && member result J) }
     {
         let mut set = Forecasts::NONE;
-        // counted in a wider type, since a `u8` can't count to 256
-        for place in 0..count {
-            let forecast = place as u8;
+        for forecast in (0..=u8::MAX).take(count) {
             if test(forecast) {
                 set.insert(forecast);
             }

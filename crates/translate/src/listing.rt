@@ -18,9 +18,8 @@ pub(crate) fn all_pairs(rule: &Rule) -> Few<Pair, 256>
         breaking: 0,
         visits: Few::new(0),
     });
-    // counted in a wider type, since a `u8` can't count to 256
-    for forecast in 0..forecast_count(rule) {
-        if let Some(pair) = pair_of(rule, forecast as u8) {
+    for forecast in (0..=u8::MAX).take(forecast_count(rule)) {
+        if let Some(pair) = pair_of(rule, forecast) {
             // there is room, since there are at most 256 forecasts
             pairs.push(pair).unwrap();
         }

@@ -23,9 +23,7 @@ fn all_rows(rule: &Rule) -> Few<Row, 256>
         recasts: [0; 64],
         root: 0,
     });
-    // counted in a wider type, since a `u8` can't count to 256
-    for place in 0..forecast_count(rule) {
-        let forecast = place as u8;
+    for forecast in (0..=u8::MAX).take(forecast_count(rule)) {
         let row = Row {
             recasts: recasts_of(rule, forecast),
             root: rule_letters(rule, forecast),

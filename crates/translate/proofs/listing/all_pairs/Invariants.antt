@@ -5,4 +5,4 @@ use Rattle.translate.specs.Tables.{Listed}
 use Rattle.translate.proofs.listing.all_pairs.Given as goal
 
 abbrev pub invariant-loop-forecast : goal.invariant-loop-forecast
-invariant-loop-forecast l = Listed (length (names_in l.rule)) (nodes_in l.rule) l.forecast (items l.pairs)
+invariant-loop-forecast l = Listed (length (names_in l.rule)) (nodes_in l.rule) (length l.yielded) (items l.pairs)

@@ -4,5 +4,5 @@ use Rattle.rule.specs.Rules.{names_in, nodes_in}
 use Rattle.translate.specs.Tables.{Tabled}
 use Rattle.translate.proofs.making.all_rows.Given as goal
 
-abbrev pub invariant-loop-place : goal.invariant-loop-place
-invariant-loop-place l = Tabled (length (names_in l.rule)) (nodes_in l.rule) l.place (items l.rows)
+abbrev pub invariant-loop-forecast : goal.invariant-loop-forecast
+invariant-loop-forecast l = Tabled (length (names_in l.rule)) (nodes_in l.rule) (length l.yielded) (items l.rows)
