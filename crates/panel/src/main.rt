@@ -9,7 +9,7 @@ use std::io::Read;
 use support::{Answer, rule_line, yes_or_no};
 
 // One byte more than a sheet may have, so that a longer one can be told.
-const ENOUGH: u64 = MOST_BYTES as u64 + 1;
+const ENOUGH: u64 = MOST_BYTES as u64 + 1; // no `from` may stand in a constant
 
 fn print_rule(rt: &HostRuntime, rule: &Rule) -> anyhow::Result<()> {
     let line = rule_line(rt.alloc(), rule, LONGEST_TEXT)?;
