@@ -47,13 +47,14 @@ module _ {r : RangeInclusive ℕ} (start : range_inclusive_start r ≡ 0) (last 
       ∙ ap (λ e. range_with_len 0 (range_inclusive_len gap 0 e (range_inclusive_exhausted r))) last
       ∙ ap (λ b. range_with_len 0 (range_inclusive_len gap 0 255 b)) fresh
 
+  whole : YieldsList counts (λ x. x) (take_source s) (range_with_len 0 256)
+  whole = subst (YieldsList counts (λ x. x) (take_source s)) (ap left source ∙ all) (YieldsList-from_shown counts (λ x. x) left left_none left_more (take_source s))
+
+  first : take n (range_with_len 0 256) ≡ range_with_len 0 n
+  first = ap (take n) (sym (map-id (range_with_len 0 256))) ∙ take-map-range_with_len (λ x. x) 0 256 n few ∙ map-id (range_with_len 0 n)
+
   below : YieldsList (take_steps counts) (λ x. x) s (range_with_len 0 n)
-  below =
-      let whole : YieldsList counts (λ x. x) (take_source s) (range_with_len 0 256) =
-      subst (YieldsList counts (λ x. x) (take_source s)) (ap left source ∙ all) (YieldsList-from_shown counts (λ x. x) left left_none left_more (take_source s)) in
-      let first : take n (range_with_len 0 256) ≡ range_with_len 0 n =
-      ap (take n) (sym (map-id (range_with_len 0 256))) ∙ take-map-range_with_len (λ x. x) 0 256 n few ∙ map-id (range_with_len 0 n) in
-      subst (YieldsList (take_steps counts) (λ x. x) s) first (YieldsList-from_take n whole count)
+  below = subst (YieldsList (take_steps counts) (λ x. x) s) first (YieldsList-from_take n whole count)
 
   -- a turn's forecast is how many came before it
   pub count_turn : (xs : List ℕ) (t : Take (RangeInclusive ℕ)) → Yields (take_steps counts) s xs t → {o : Option ℕ} (u : Take (RangeInclusive ℕ)) {x : ℕ} → o ≡ Some x → take_steps counts t o u → (length xs < n) × (x ≡ length xs)
