@@ -32,7 +32,7 @@ impl Forecasts {
 impl RuleAcceptor {
     // The forecasts under which the rule holds at a letter.
     fn opening(&self, a: usize) -> Forecasts
-        ensures { a < 64 → (K : ℕ) → K < 2 ^ temporals (nodes_in self.now.rule) → member result K ≡ holds_at (nodes_in self.now.rule) a K (length (nodes_in self.now.rule) - 1) }
+        ensures { a < 64 → result ≡ set_of (λ K. nat_lt K (2 ^ temporals (nodes_in self.now.rule)) && holds_at (nodes_in self.now.rule) a K (length (nodes_in self.now.rule) - 1)) }
     {
         let rows = self.rows.as_slice();
         Forecasts::passing(

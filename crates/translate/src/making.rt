@@ -5,7 +5,7 @@ ghost use Rattle.few.specs.Items.{items};
 ghost use Rattle.ltl.specs.Arena.{temporals};
 ghost use Rattle.rule.specs.Rules.{names_in, nodes_in};
 ghost use Rattle.translate.specs.States.{member};
-ghost use Rattle.translate.specs.Tables.{Tabled};
+ghost use Rattle.translate.specs.Tables.{PossibleOnly, Tabled};
 
 use crate::held::RuleAcceptor;
 use crate::listing::all_pairs;
@@ -34,11 +34,12 @@ fn all_rows(rule: &Rule) -> Few<Row, 256>
     rows
 }
 
-// The forecasts that are the recast of some forecast by one of so many letters.
-fn all_recasts(rows: &[Row], letters: usize) -> Forecasts
-    requires { letters ≤ 64 }
-    ensures { (J : ℕ) → J < 256 → member result J ≡ list_any (λ row. list_any (λ K. K == J) (take letters row.recasts)) rows.now }
+// The forecasts that are the recast of some forecast by some letter.
+fn all_recasts(rule: &Rule, rows: &[Row]) -> Forecasts
+    requires { Tabled (length (names_in rule.now)) (nodes_in rule.now) (2 ^ temporals (nodes_in rule.now)) rows.now }
+    ensures { PossibleOnly (length (names_in rule.now)) (nodes_in rule.now) result }
 {
+    let letters = rule.letter_count();
     let mut recasts = Forecasts::NONE;
     for row in rows {
         recasts.insert_all(&row.recasts[..letters]);
@@ -55,7 +56,7 @@ impl RuleAcceptor {
         RuleAcceptor {
             rule: *rule,
             rows,
-            possible: all_recasts(rows.as_slice(), rule.letter_count()),
+            possible: all_recasts(rule, rows.as_slice()),
             pairs: all_pairs(rule),
         }
     }

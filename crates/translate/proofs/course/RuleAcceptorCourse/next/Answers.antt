@@ -24,7 +24,7 @@ returns c =
     let next : Forecasts → State = λ set. Obliged (set_of (λ J. possible n ns J && member set (recast ns a J))) a in
     let by : State → State = λ s. stepped rule_states n ns s a in
     let step : Obliged c.carried.result a ≡ by c.args.state.now = ap (λ s. Obliged s a) (c.carried.ensures fits) ∙ (elim c.match-state.branch [
-      | in-Start w ↦ ap next w.set-is ∙ first_step n ns a w.opening-set.result (w.opening-set.ensures (omega (arith, few_letters x.rule))) ∙ ap by (sym w.in-Start.is)
+      | in-Start w ↦ ap next w.set-is ∙ first_step n ns a w.opening-set.result x.rule.temporal (w.opening-set.ensures (omega (arith, few_letters x.rule))) ∙ ap by (sym w.in-Start.is)
       | in-Obliged w ↦ ap next w.set-is ∙ ap by (sym w.in-Obliged.is)
     ]) in
     let value = step ∙ ap (stepped rule_states n ns c.args.state.now) low in
