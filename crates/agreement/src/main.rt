@@ -7,7 +7,7 @@ use anyhow::{Context, anyhow};
 use evaluate::satisfies;
 use round::{MOST_LETTERS, Round};
 use rule::{LONGEST_TEXT, Rule};
-use support::{Answer, bytes_of, read_rule, written, yes_or_no};
+use support::{Answer, bytes_of, declare, written, yes_or_no};
 use translate::{RuleAcceptor, State};
 use turning::{MOST_PAIRS, TurnedState};
 use verdicts::{judge_bare, judge_turned};
@@ -17,12 +17,14 @@ const TRAIL: usize = 256;
 // A rule that the table takes for granted is read, or what it was refused with is the program's end.
 fn rule_of(line: &str) -> anyhow::Result<Rule> {
     let (words, text) = line.split_once(':').context("a rule wants names:text")?;
-    read_rule(words, text).map_err(|_| anyhow!("the rule is refused"))
+    let names = declare(words).map_err(|_| anyhow!("the names are refused"))?;
+    Rule::read(&names, text.as_bytes()).map_err(|_| anyhow!("the rule is refused"))
 }
 
 fn print_rule(rt: &HostRuntime, rule: &Rule) -> anyhow::Result<()> {
     let pairs = RuleAcceptor::new(rule).pairs();
-    match written(rt.alloc(), rule, LONGEST_TEXT)? {
+    let mut out = [0; LONGEST_TEXT];
+    match written(rule, &mut out)? {
         Ok(text) => Ok(println!(rt; "rule {text} pairs {pairs}")?),
         Err(refusal) => Ok(print!(rt; "{refusal}")?),
     }
@@ -69,11 +71,14 @@ fn check_round(rt: &HostRuntime, rule: &Rule, line: &str) -> anyhow::Result<()> 
         lead: lead.as_slice(),
         cycle: cycle.as_slice(),
     };
-    let acceptor = RuleAcceptor::new(rule);
+    // each answer is printed before the next way is tried
     let straight = judge_straight(rt, rule, round)?;
+    print!(rt; "straight {straight}")?;
+    let acceptor = RuleAcceptor::new(rule);
     let bare = judge_by_bare(rt, &acceptor, round)?;
+    print!(rt; " bare {bare}")?;
     let turned = judge_by_turned(rt, &acceptor, round)?;
-    Ok(println!(rt; "straight {straight} bare {bare} turned {turned}")?)
+    Ok(println!(rt; " turned {turned}")?)
 }
 
 fn main(rt: HostRuntime) -> anyhow::Result<()> {

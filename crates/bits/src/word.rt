@@ -23,7 +23,7 @@ impl Word for u8 {
     ghost width = { 8 };
 
     fn widened(self) -> u64 {
-        u64::from(self)
+        u64::from(self) // of 8 bits
     }
 
     fn with(self, k: usize) -> u8 {

@@ -10,7 +10,8 @@ use support::{Answer, bytes_of, declare, read_rule, rule_line, yes_or_no};
 
 // A rule, written into an output with this much room.
 fn print_rule(rt: &HostRuntime, rule: &Rule, room: usize) -> anyhow::Result<()> {
-    let line = rule_line(rt.alloc(), rule, room)?;
+    let mut text = vec![in rt.alloc(); 0u8; room]?;
+    let line = rule_line(rule, text.as_mut_slice())?;
     Ok(println!(rt; "{line}")?)
 }
 

@@ -11,12 +11,22 @@ use crate::token::{Lexeme, Lexer, Token};
 use names::spelling::{is_lower, is_wordly};
 use refusal::{Cause, Layer, Refusal};
 
-// The place of the first byte from `at` on that is no blank.
+// How many blanks stand in front.
+fn blank_count(bytes: &[u8]) -> usize
+    ensures value { result ≡ prefix_len (λ b. b == 32) bytes.now }
+    ensures within { result ≤ length bytes.now }
+{
+    bytes.iter().take_while(|b| **b == b' ').count()
+}
+
+// The place of the first byte from `at` on that is no blank. The part behind `at` is looked at alone: `skip` would walk over all that was read before.
 fn skip_blanks(text: &[u8], at: usize) -> usize
     ensures { result ≡ at + prefix_len (λ b. b == 32) (drop at text.now) }
 {
-    let blanks = text.iter().skip(at).take_while(|b| **b == b' ');
-    at + blanks.count()
+    match text.get(at..) {
+        Some(rest) => at + blank_count(rest),
+        None => at,
+    }
 }
 
 // How many letters and digits stand in front: like the blanks above a chain of its own, since that is all that one over a test would be.

@@ -18,7 +18,8 @@ const ENOUGH: u64 = MOST_BYTES as u64 + 1; // no `from` may stand in a constant
 const TRAIL: usize = 256;
 
 fn print_rule(rt: &HostRuntime, rule: &Rule, acceptor: &RuleAcceptor) -> anyhow::Result<()> {
-    let line = rule_line(rt.alloc(), rule, LONGEST_TEXT)?;
+    let mut text = [0; LONGEST_TEXT];
+    let line = rule_line(rule, &mut text)?;
     let pairs = acceptor.pairs();
     Ok(println!(rt; "{line} pairs {pairs}")?)
 }

@@ -24,7 +24,7 @@ impl Pool {
         ensures { result ≡ position_from (same_node node) 0 (held self.now).nodes }
     {
         let nodes = self.nodes.as_slice();
-        nodes.iter().position(|known| node == *known)
+        nodes.iter().position(|known| node.is_same(*known))
     }
 
     // The number of a node, which is put behind the others where it is new. Past the last place it is only noted that there are

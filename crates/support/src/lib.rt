@@ -1,11 +1,11 @@
 // What the programs share: reading names, rules and letters as their tables write them, and a rule's written text.
 #![tactic(auto)]
 
-ghost use Rattle.std.specs.Prelude.{◌≡◌, ◌<◌, ◌++◌, [], codes, if◌then◌else◌, IfOk, length, string_bytes};
+ghost use Rattle.std.specs.Prelude.{◌≡◌, ◌<◌, ◌++◌, [], Some, codes, if◌then◌else◌, IfOk, length};
 ghost use Rattle.refusal.specs.Answers.{answer, and_then};
 ghost use Rattle.grammar.specs.Descent.{reading};
 ghost use Rattle.names.specs.Listed.{spelled_names};
-ghost use Rattle.support.specs.Printed.{answer_output};
+ghost use Rattle.support.specs.Printed.{answer_output, line_text};
 ghost use Rattle.support.specs.Tables.{bytes_in, declared_all, digit_in, listed};
 ghost use Rattle.rule.specs.Rules.{nodes_in, names_in};
 ghost use Rattle.rule.specs.Written.{word_in, writing};
@@ -64,37 +64,38 @@ pub fn bytes_of<A: Allocator>(alloc: A, text: &str) -> anyhow::Result<Vec<u8, A>
     Ok(bytes)
 }
 
-// A rule as it is written into an output with this much room, or the refusal where there is too little.
-pub fn written<A: Allocator>(
-    alloc: A,
-    rule: &Rule,
-    room: usize,
-) -> anyhow::Result<Result<String<A>, Refusal>>
-    ensures value { IfOk result (λ came. IfOk came (λ text. string_bytes text ≡ word_in rule.now)) }
-    ensures refusal { IfOk result (λ came. answer (λ text. length (string_bytes text)) came ≡ writing rule.now room) }
+// A rule as it is written into a lent output, or the refusal where there is too little room.
+pub fn written<'a>(rule: &Rule, out: &'a mut [u8]) -> anyhow::Result<Result<&'a str, Refusal>>
+    ensures value { IfOk result (λ came. IfOk came (λ text. text.now ≡ word_in rule.now)) }
+    ensures refusal { IfOk result (λ came. answer (λ text. length text.now) came ≡ writing rule.now (length out.old)) }
 {
-    let mut text = vec![in alloc; 0u8; room]?;
-    match rule.write(text.as_mut_slice()) {
-        Ok(length) => {
-            text.truncate(length);
-            Ok(Ok(String::from_utf8(text)?))
-        }
+    match rule.write(out) {
+        Ok(length) => Ok(Ok(std::str::from_utf8(&out[..length])?)),
         Err(refusal) => Ok(Err(refusal)),
     }
 }
 
-// The line of a rule: its written text, or the refusal where there is too little room.
-pub fn rule_line<A: Allocator + Copy>(
-    alloc: A,
-    rule: &Rule,
-    room: usize,
-) -> anyhow::Result<String<A>>
-    ensures { IfOk result (λ line. IfOk (writing rule.now room) (λ _. string_bytes line ≡ codes "rule " ++ word_in rule.now)) }
-{
-    match written(alloc, rule, room)? {
-        Ok(text) => Ok(format!(in alloc; "rule {text}")?),
-        Err(refusal) => Ok(format!(in alloc; "{refusal}")?),
+// The line of a rule, which lies in a lent output: its written text, or the refusal where there was too little room.
+#[derive(Clone, Copy, Debug)]
+pub struct RuleLine<'a>(pub Result<&'a str, Refusal>);
+
+impl fmt::Display for RuleLine<'_> {
+    ghost output = { λ line. Some (line_text (λ text. text.now) line.0) };
+
+    fn fmt<W: fmt::Write>(&self, f: &mut fmt::Formatter<W>) -> fmt::Result {
+        match self.0 {
+            Ok(text) => write!(f, "rule {text}"),
+            Err(refusal) => write!(f, "{refusal}"),
+        }
     }
+}
+
+// The line of a rule, written into a lent output, so that printing it needs no memory of its own.
+pub fn rule_line<'a>(rule: &Rule, out: &'a mut [u8]) -> anyhow::Result<RuleLine<'a>>
+    ensures granted { IfOk result (λ line. IfOk (writing rule.now (length out.old)) (λ _. line_text (λ text. text.now) line.0 ≡ codes "rule " ++ word_in rule.now)) }
+    ensures came { IfOk result (λ line. answer (λ text. length text.now) line.0 ≡ writing rule.now (length out.old)) }
+{
+    Ok(RuleLine(written(rule, out)?))
 }
 
 // How a verdict is printed.

@@ -1,17 +1,17 @@
 -- Sets of forecasts, by their members. Assumes nothing.
-use Rattle.std.proofs.Common.{◌≡◌, ℕ, zero, suc, ◌+◌, ◌*◌, ◌/◌, ◌%◌, ◌^◌, ◌<◌, ◌≤◌, Bool, true, false, ◌&&◌, ◌||◌, eqb, ltb, ◌≢◌, List, [], ◌∷◌, length, get_or, set, sym, refl, ap, ◌∙◌, ap₂, subst, inl, inr, arith, length-set, lit<, below_more}
+use Rattle.std.proofs.Common.{◌≡◌, ℕ, zero, suc, ◌+◌, ◌-◌, ◌*◌, ◌/◌, ◌%◌, ◌^◌, ◌<◌, ◌≤◌, Bool, true, false, cond, ◌&&◌, ◌||◌, eqb, ltb, List, [], ◌∷◌, length, get_or, set, sym, refl, ap, ◌∙◌, ap₂, subst, inl, inr, arith, length-set, below_more, pow_mono}
 use native.Mathlib.Nat.{mod-eq_of_lt}
 use lib.Bits.{bit_or, or_lt}
 use Rattle.std.proofs.lemmas.Bool.{cases_lt, cases_eq, eq-eqb, ne_eqb, lt-ltb, le-ltb}
 use Rattle.std.proofs.lemmas.List.{get_or-set_same, get_or-set_other}
 use Rattle.std.proofs.lemmas.Nat.{pow_pos, pow_below}
 use Rattle.ltl.specs.Words.{bit}
-use Rattle.bits.proofs.Bits.{bit_none, bit_put, bit_kept}
+use Rattle.bits.proofs.Bits.{bit_none, bit_put, bit_kept, put_below}
 use Rattle.bits.proofs.Joined.{bit_bit_or}
 use Rattle.bits.specs.Gathered.{gathered}
-use Rattle.bits.proofs.Collected.{gathered_same, gathered_is}
+use Rattle.bits.proofs.Collected.{gathered_same, gathered_is, gathered_bit, gathered_ones}
 use Rattle.translate.specs.declared.state.Forecasts.{Forecasts}
-use Rattle.translate.specs.States.{set_of, member, member_set}
+use Rattle.translate.specs.States.{set_of, member}
 
 -- tests that agree have one set
 pub set_of_same : (f g : ℕ → Bool) → ((J : ℕ) → J < 256 → f J ≡ g J) → set_of f ≡ set_of g
@@ -103,66 +103,78 @@ inserted s J l size fits = set_whole after (length-set s.words (J / 64) word ∙
           ∙ sym (ap (λ b. b || member s K) (ne_eqb J K (λ t. ne (ap (λ n. n / 64) (sym t)))))
     ]
 
--- the set with nothing in it
-abbrev pub nothing : Forecasts
-nothing = record { words = 0 ∷ 0 ∷ 0 ∷ 0 ∷ [] }
+-- a word so far: what its bits below j say, and it has no other
+pub record Gathering (Says : ℕ → Bool → Type 0) (j word : ℕ) : Type 0 where
+  pub below : word < 2 ^ j
+  pub says : (k : ℕ) → k < j → Says k (bit k word)
 
-pub member_nothing : (J : ℕ) → J < 256 → member nothing J ≡ false
-member_nothing J l = ap (bit (J % 64)) (none (J / 64) (omega arith)) ∙ bit_none (J % 64) 0 (pow_pos (J % 64))
-  where
-    none : (q : ℕ) → q < 4 → get_or nothing.words q 0 ≡ 0
-    none zero h = refl
-    none (suc zero) h = refl
-    none (suc (suc zero)) h = refl
-    none (suc (suc (suc zero))) h = refl
-    none (suc (suc (suc (suc q)))) h = let z : ⊥ = omega arith in absurd z
+pub gathering_none : (Says : ℕ → Bool → Type 0) → Gathering Says 0 0
+gathering_none Says = record { below = pow_pos 0; says = λ k h. let z : ⊥ = omega arith in absurd z }
 
--- the set has, of the forecasts below m, those that pass, and no others
-pub record Passing (Passes : ℕ → Bool → Type 0) (m : ℕ) (s : Forecasts) : Type 0 where
-  pub answers : (J : ℕ) → J < m → Passes J (member s J)
-  pub none : (J : ℕ) → m ≤ J → J < 256 → member s J ≡ false
-  pub whole : s ≡ set_of (member s)
-
-pub passing_none : (Passes : ℕ → Bool → Type 0) → Passing Passes 0 nothing
-passing_none Passes = record {
-  answers = λ J h. let z : ⊥ = omega arith in absurd z;
-  none = λ J h l. member_nothing J l;
-  whole = set_whole nothing refl small;
-}
-  where
-    small : (q : ℕ) → q < 4 → get_or nothing.words q 0 < 2 ^ 64
-    small zero h = lit< tt
-    small (suc zero) h = lit< tt
-    small (suc (suc zero)) h = lit< tt
-    small (suc (suc (suc zero))) h = lit< tt
-    small (suc (suc (suc (suc q)))) h = let z : ⊥ = omega arith in absurd z
-
-module _ (Passes : ℕ → Bool → Type 0) (m : ℕ) (s : Forecasts) (before : Passing Passes m s) where
-  -- one forecast more, which passes, or doesn't
-  pub passing_more : (after : Forecasts) → m < 256 → after ≡ set_of (λ K. eqb m K || member s K) → Passes m true → Passing Passes (m + 1) after
-  passing_more after l e passes = record {
-    answers = below_more (λ J. Passes J (member after J)) m
-        (λ J h. subst (Passes J) (sym (other J (omega arith) (λ t. let z : ⊥ = omega arith in absurd z))) (before.answers J h))
-        (subst (Passes m) (sym (now m l ∙ ap (λ b. b || member s m) (eq-eqb m m refl))) passes);
-    none = λ J h u. other J u (λ t. let z : ⊥ = omega arith in absurd z) ∙ before.none J (omega arith) u;
-    whole = e ∙ set_of_same (λ K. eqb m K || member s K) (member after) (λ J u. sym (now J u));
-  }
-    where
-      now : (J : ℕ) → J < 256 → member after J ≡ (eqb m J || member s J)
-      now J u = ap (λ x. member x J) e ∙ member_set (λ K. eqb m K || member s K) J u
-
-      other : (J : ℕ) → J < 256 → m ≢ J → member after J ≡ member s J
-      other J u ne = now J u ∙ ap (λ b. b || member s J) (ne_eqb m J ne)
-
-  pub passing_same : m < 256 → Passes m false → Passing Passes (m + 1) s
-  passing_same l fails = record {
-    answers = below_more (λ J. Passes J (member s J)) m before.answers (subst (Passes m) (sym (before.none m (omega arith) l)) fails);
-    none = λ J h u. before.none J (omega arith) u;
-    whole = before.whole;
+module _ (Says : ℕ → Bool → Type 0) (j word : ℕ) (before : Gathering Says j word) where
+  -- one bit more
+  pub gathering_more : (b : Bool) (after : ℕ) → after ≡ word + cond b (2 ^ j) 0 → Says j b → Gathering Says (j + 1) after
+  gathering_more b after e said = record {
+    below = subst (λ w. w < 2 ^ (j + 1)) (sym e) (put_below j word b before.below);
+    says = below_more (λ k. Says k (bit k after)) j
+        (λ k h. subst (Says k) (sym (ap (bit k) e ∙ bit_kept k j word b h)) (before.says k h))
+        (subst (Says j) (sym (ap (bit j) e ∙ bit_put j word b before.below)) said);
   }
 
-  pub passing_only : s ≡ set_of (λ J. ltb J m && member s J)
-  passing_only = before.whole ∙ set_of_same (member s) (λ J. ltb J m && member s J) (λ J u. elim (cases_lt J m) [
-    | inl h ↦ sym (ap (λ b. b && member s J) (lt-ltb J m h))
-    | inr h ↦ before.none J h u ∙ sym (ap (λ b. b && member s J) (le-ltb J m h))
+  -- no bit from j on
+  pub gathering_past : (k : ℕ) → j ≤ k → bit k word ≡ false
+  gathering_past k h = bit_none k word (let grown : 2 ^ j ≤ 2 ^ k = pow_mono h in let low : word < 2 ^ j = before.below in omega arith)
+
+-- what a bit says where bit k of another word lets it: that is what is to be, and elsewhere the bit is not set
+pub record Told (Post : ℕ → Bool → Type 0) (among base k : ℕ) (b : Bool) : Type 0 where
+  pub answers : bit k among ≡ true → Post (base + k) b
+  pub others : bit k among ≡ false → b ≡ false
+
+-- a word from `base` on: it tells of the forecasts below a count that are in a word, and has no other
+pub record Part (Post : ℕ → Bool → Type 0) (count among base word : ℕ) : Type 0 where
+  pub fits : word < 2 ^ 64
+  pub answers : (k : ℕ) → k < 64 → base + k < count → bit k among ≡ true → Post (base + k) (bit k word)
+  pub others : (k : ℕ) → k < 64 → bit k among ≡ false → bit k word ≡ false
+  pub past : (k : ℕ) → k < 64 → count ≤ base + k → bit k word ≡ false
+
+-- four words that follow one another are a set
+module _ (Post : ℕ → Bool → Type 0) (count : ℕ) (few : count ≤ 256) (among : Forecasts) (a b c d : ℕ)
+    (first : Part Post count (get_or among.words 0 0) 0 a) (second : Part Post count (get_or among.words 1 0) 64 b)
+    (third : Part Post count (get_or among.words 2 0) 128 c) (fourth : Part Post count (get_or among.words 3 0) 192 d) where
+  abbrev joined : Forecasts
+  joined = record { words = a ∷ b ∷ c ∷ d ∷ [] }
+
+  part : (i : ℕ) → i < 4 → Part Post count (get_or among.words i 0) (64 * i) (get_or joined.words i 0)
+  part zero h = first
+  part (suc zero) h = second
+  part (suc (suc zero)) h = third
+  part (suc (suc (suc zero))) h = fourth
+  part (suc (suc (suc (suc i)))) h = let z : ⊥ = omega arith in absurd z
+
+  pub joined_answers : (J : ℕ) → J < count → member among J ≡ true → Post J (member joined J)
+  joined_answers J h in_set =
+      let whole : 64 * (J / 64) + J % 64 ≡ J = omega arith in
+      subst (λ i. Post i (member joined J)) whole ((part (J / 64) (omega arith)).answers (J % 64) (omega arith) (omega arith) in_set)
+
+  pub joined_others : (J : ℕ) → J < count → member among J ≡ false → member joined J ≡ false
+  joined_others J h out = (part (J / 64) (omega arith)).others (J % 64) (omega arith) out
+
+  pub joined_only : joined ≡ set_of (λ J. ltb J count && member joined J)
+  joined_only = set_whole joined refl (λ i h. (part i h).fits) ∙ set_of_same (member joined) (λ J. ltb J count && member joined J) (λ J u. elim (cases_lt J count) [
+    | inl h ↦ sym (ap (λ t. t && member joined J) (lt-ltb J count h))
+    | inr h ↦ (part (J / 64) (omega arith)).past (J % 64) (omega arith) (omega arith) ∙ sym (ap (λ t. t && member joined J) (le-ltb J count h))
   ])
+
+-- the set with everything in it
+abbrev pub everything : Forecasts
+everything = record { words = (2 ^ 64 - 1) ∷ (2 ^ 64 - 1) ∷ (2 ^ 64 - 1) ∷ (2 ^ 64 - 1) ∷ [] }
+
+pub member_everything : (J : ℕ) → J < 256 → member everything J ≡ true
+member_everything J l = ap (bit (J % 64)) (full (J / 64) (omega arith)) ∙ ap (bit (J % 64)) (gathered_ones 0 64) ∙ gathered_bit (λ _. true) 0 64 (J % 64) (omega arith)
+  where
+    full : (i : ℕ) → i < 4 → get_or everything.words i 0 ≡ 2 ^ 64 - 1
+    full zero h = refl
+    full (suc zero) h = refl
+    full (suc (suc zero)) h = refl
+    full (suc (suc (suc zero))) h = refl
+    full (suc (suc (suc (suc i)))) h = let z : ⊥ = omega arith in absurd z

@@ -1,5 +1,6 @@
 // The rule's automaton as a course: from an obligation to the next, by look-ups.
-ghost use Rattle.std.specs.Prelude.{◌≡◌, ℕ, ◌-◌, ◌^◌, ◌<◌, ◌≤◌, ◌&&◌, length, nat_lt};
+ghost use Rattle.std.specs.Prelude.{◌≡◌, ℕ, ◌+◌, ◌-◌, ◌^◌, ◌<◌, ◌≤◌, true, false, ◌&&◌, length, nat_lt};
+ghost use Rattle.ltl.specs.Words.{bit};
 ghost use Rattle.ltl.specs.Arena.{temporals};
 ghost use Rattle.rule.specs.Rules.{names_in, nodes_in};
 ghost use Rattle.forecast.specs.Forecasts.{holds_at, possible, recast};
@@ -9,23 +10,46 @@ ghost use Rattle.translate.specs.Meaning.{rule_moves};
 use crate::held::RuleAcceptor;
 use crate::state::{Forecasts, State};
 use acceptor::Course;
-use bits::has_bit;
+use bits::{has_bit, with_bit};
+
+// The forecasts from `base` on that are in the bits of a word and pass a test, at most 64 of them and all below a count, as the bits of a word.
+fn word_passing<F: Fn(u8) -> bool>(base: u8, count: usize, among: u64, test: &F) -> u64
+    requires base { base ≤ 192 }
+    requires few { count ≤ 256 }
+    requires can { (J : ℕ) → J < count → F.pre test.now J }
+    ensures answers { (k : ℕ) → k < 64 → base + k < count → bit k among ≡ true → F.post test.now (base + k) (bit k result) }
+    ensures others { (k : ℕ) → k < 64 → bit k among ≡ false → bit k result ≡ false }
+    ensures past { (k : ℕ) → k < 64 → count ≤ base + k → bit k result ≡ false }
+{
+    let width = count.saturating_sub(usize::from(base)).min(64) as u8; // at most 64
+    let mut word = 0;
+    for j in 0..width {
+        let k = usize::from(j);
+        if has_bit(among, k) {
+            word = with_bit(word, k, test(base + j));
+        }
+    }
+    word
+}
 
 impl Forecasts {
-    // The forecasts below a count that pass a test.
-    fn passing<F: Fn(u8) -> bool>(count: usize, test: F) -> Forecasts
+    // The forecasts of a set, all below a count, that pass a test: a word at a time, since most are not even looked at.
+    fn passing<F: Fn(u8) -> bool>(count: usize, among: &Forecasts, test: F) -> Forecasts
         requires few { count ≤ 256 }
         requires can { (J : ℕ) → J < count → F.pre test J }
-        ensures answers { (J : ℕ) → J < count → F.post test J (member result J) }
+        ensures answers { (J : ℕ) → J < count → member among.now J ≡ true → F.post test J (member result J) }
+        ensures others { (J : ℕ) → J < count → member among.now J ≡ false → member result J ≡ false }
         ensures only { result ≡ set_of (λ J. nat_lt J count && member result J) }
     {
-        let mut set = Forecasts::NONE;
-        for forecast in (0..=u8::MAX).take(count) {
-            if test(forecast) {
-                set.insert(forecast);
-            }
+        let [first, second, third, fourth] = among.words;
+        Forecasts {
+            words: [
+                word_passing(0, count, first, &test),
+                word_passing(64, count, second, &test),
+                word_passing(128, count, third, &test),
+                word_passing(192, count, fourth, &test),
+            ],
         }
-        set
     }
 }
 
@@ -37,6 +61,7 @@ impl RuleAcceptor {
         let rows = self.rows.as_slice();
         Forecasts::passing(
             rows.len(),
+            &Forecasts::ALL,
             |forecast| has_bit(rows[usize::from(forecast)].root, a),
         )
     }
@@ -47,9 +72,11 @@ impl RuleAcceptor {
         ensures { a < 2 ^ length (names_in self.now.rule) → result ≡ set_of (λ J. possible (length (names_in self.now.rule)) (nodes_in self.now.rule) J && member set.now (recast (nodes_in self.now.rule) a J)) }
     {
         let rows = self.rows.as_slice();
-        Forecasts::passing(rows.len(), |forecast| {
-            self.possible.contains(forecast) && set.contains(rows[usize::from(forecast)].recasts[a])
-        })
+        Forecasts::passing(
+            rows.len(),
+            &self.possible,
+            |forecast| set.contains(rows[usize::from(forecast)].recasts[a]),
+        )
     }
 }
 

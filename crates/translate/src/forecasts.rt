@@ -9,6 +9,10 @@ use bits::has_bit;
 impl Forecasts {
     pub(crate) const NONE: Forecasts = Forecasts { words: [0; 4] };
 
+    pub(crate) const ALL: Forecasts = Forecasts {
+        words: [u64::MAX; 4],
+    };
+
     pub(crate) fn contains(&self, forecast: u8) -> bool
         ensures { result ≡ member self.now forecast }
     {

@@ -1,5 +1,5 @@
 use Rattle.std.proofs.Common.{◌≡◌, ℕ, ◌^◌, ◌<◌, ◌&&◌, ltb, length, get_or, sym, ap, ◌∙◌, ap₂, inl, inr, arith, rules}
-use Rattle.std.proofs.lemmas.Bool.{cases_lt, lt-ltb, le-ltb}
+use Rattle.std.proofs.lemmas.Bool.{cases_Bool, cases_lt, lt-ltb, le-ltb}
 use Rattle.few.specs.Items.{items}
 use Rattle.ltl.specs.Arena.{temporals}
 use Rattle.rule.specs.Rules.{names_in, nodes_in}
@@ -24,7 +24,13 @@ returns c = λ low.
     let same = c.as_slice-rows.ensures.value in
     let many : length rows ≡ 2 ^ temporals ns = ap length same ∙ x.tabled.many in
     let looked : (J : ℕ) → J < length rows → member c.passing.result J ≡ (member x.possible J && member set (get_or (get_or rows J absent_row).recasts a 0)) =
-    λ J h. let post = c.passing.ensures.answers J h in search rules in
+    λ J h. elim (cases_Bool (member x.possible J)) [
+      | inl within ↦
+          let post = c.passing.ensures.answers J h within in
+          let asked : member c.passing.result J ≡ member set (get_or (get_or rows J absent_row).recasts a 0) = search rules in
+          asked ∙ sym (ap (λ b. b && member set (get_or (get_or rows J absent_row).recasts a 0)) within)
+      | inr out ↦ c.passing.ensures.others J h out ∙ sym (ap (λ b. b && member set (get_or (get_or rows J absent_row).recasts a 0)) out)
+    ] in
     let right : (J : ℕ) → J < 256 → (ltb J (length rows) && member c.passing.result J) ≡ (possible n ns J && member set (recast ns a J)) = λ J u. elim (cases_lt J (length rows)) [
       | inl h ↦
           ap (λ b. b && member c.passing.result J) (lt-ltb J (length rows) h) ∙ looked J h

@@ -7,7 +7,7 @@ use Rattle.bits.proofs.Collected.{gathered_at}
 use Rattle.rule.specs.Rules.{names_in, nodes_in}
 use Rattle.forecast.specs.Forecasts.{holds_at}
 use Rattle.translate.specs.States.{member}
-use Rattle.translate.proofs.Members.{set_of_same}
+use Rattle.translate.proofs.Members.{set_of_same, member_everything}
 use Rattle.translate.proofs.Looked.{absent_row, row_at}
 use Rattle.translate.proofs.held.RuleAcceptor.opening.Goals as goal
 
@@ -21,7 +21,7 @@ returns c = λ low.
     let same = c.as_slice-rows.ensures.value in
     let many : length rows ≡ 2 ^ temporals ns = ap length same ∙ x.tabled.many in
     let looked : (K : ℕ) → K < length rows → member c.passing.result K ≡ bit a (get_or rows K absent_row).root =
-    λ K h. let post = c.passing.ensures.answers K h in search rules in
+    λ K h. let post = c.passing.ensures.answers K h (member_everything K (omega (arith, h, c.as_slice-rows.ensures.few))) in search rules in
     let right : (K : ℕ) → K < 256 → (ltb K (length rows) && member c.passing.result K) ≡ (ltb K (2 ^ temporals ns) && holds_at ns a K (length ns - 1)) = λ K u. elim (cases_lt K (length rows)) [
       | inl h ↦
           ap (λ b. b && member c.passing.result K) (lt-ltb K (length rows) h) ∙ looked K h
