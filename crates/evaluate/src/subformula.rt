@@ -4,7 +4,7 @@ ghost use Rattle.std.specs.List.{list_any, list_all};
 ghost use Rattle.ltl.specs.Words.{bit};
 ghost use Rattle.evaluate.specs.Marks.{value, Settled};
 
-use bits::{has_bit, with_bit};
+use bits::has_bit;
 use ltl::Node;
 
 #[derive(Drop)]
@@ -63,7 +63,10 @@ impl Subformula {
         ensures put { word.old < 2 ^ self.now.number → word.new ≡ word.old + (if result then 2 ^ self.now.number else 0) }
     {
         let is_set = self.holds(letter, *word, next);
-        *word = with_bit(*word, self.number, is_set);
+        // with no test of the number, unlike `with_bit`: this is done for every letter and subformula
+        if is_set {
+            *word |= 1 << self.number;
+        }
         is_set
     }
 }

@@ -12,6 +12,7 @@ use Rattle.bits.specs.Gathered.{gathered}
 use Rattle.bits.proofs.Collected.{gathered_same, gathered_is, gathered_bit, gathered_ones}
 use Rattle.translate.specs.declared.state.Forecasts.{Forecasts}
 use Rattle.translate.specs.States.{set_of, member}
+use Rattle.translate.specs.Sifted.{Part}
 
 -- tests that agree have one set
 pub set_of_same : (f g : ℕ → Bool) → ((J : ℕ) → J < 256 → f J ≡ g J) → set_of f ≡ set_of g
@@ -130,13 +131,6 @@ pub record Told (Post : ℕ → Bool → Type 0) (among base k : ℕ) (b : Bool)
   pub answers : bit k among ≡ true → Post (base + k) b
   pub others : bit k among ≡ false → b ≡ false
 
--- a word from `base` on: it tells of the forecasts below a count that are in a word, and has no other
-pub record Part (Post : ℕ → Bool → Type 0) (count among base word : ℕ) : Type 0 where
-  pub fits : word < 2 ^ 64
-  pub answers : (k : ℕ) → k < 64 → base + k < count → bit k among ≡ true → Post (base + k) (bit k word)
-  pub others : (k : ℕ) → k < 64 → bit k among ≡ false → bit k word ≡ false
-  pub past : (k : ℕ) → k < 64 → count ≤ base + k → bit k word ≡ false
-
 -- four words that follow one another are a set
 module _ (Post : ℕ → Bool → Type 0) (count : ℕ) (few : count ≤ 256) (among : Forecasts) (a b c d : ℕ)
     (first : Part Post count (get_or among.words 0 0) 0 a) (second : Part Post count (get_or among.words 1 0) 64 b)
@@ -159,11 +153,18 @@ module _ (Post : ℕ → Bool → Type 0) (count : ℕ) (few : count ≤ 256) (a
   pub joined_others : (J : ℕ) → J < count → member among J ≡ false → member joined J ≡ false
   joined_others J h out = (part (J / 64) (omega arith)).others (J % 64) (omega arith) out
 
-  pub joined_only : joined ≡ set_of (λ J. ltb J count && member joined J)
-  joined_only = set_whole joined refl (λ i h. (part i h).fits) ∙ set_of_same (member joined) (λ J. ltb J count && member joined J) (λ J u. elim (cases_lt J count) [
+  pub joined_only : a < 2 ^ 64 → b < 2 ^ 64 → c < 2 ^ 64 → d < 2 ^ 64 → joined ≡ set_of (λ J. ltb J count && member joined J)
+  joined_only la lb lc ld = set_whole joined refl fits ∙ set_of_same (member joined) (λ J. ltb J count && member joined J) (λ J u. elim (cases_lt J count) [
     | inl h ↦ sym (ap (λ t. t && member joined J) (lt-ltb J count h))
     | inr h ↦ (part (J / 64) (omega arith)).past (J % 64) (omega arith) (omega arith) ∙ sym (ap (λ t. t && member joined J) (le-ltb J count h))
   ])
+    where
+      fits : (i : ℕ) → i < 4 → get_or joined.words i 0 < 2 ^ 64
+      fits zero h = la
+      fits (suc zero) h = lb
+      fits (suc (suc zero)) h = lc
+      fits (suc (suc (suc zero))) h = ld
+      fits (suc (suc (suc (suc i)))) h = let z : ⊥ = omega arith in absurd z
 
 -- the set with everything in it
 abbrev pub everything : Forecasts

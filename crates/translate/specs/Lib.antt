@@ -1,3 +1,4 @@
 pub mod States
 pub mod Tables
 pub mod Meaning
+pub mod Sifted

@@ -1,11 +1,11 @@
 // The rule's automaton as a course: from an obligation to the next, by look-ups.
 ghost use Rattle.std.specs.Prelude.{◌≡◌, ℕ, ◌+◌, ◌-◌, ◌^◌, ◌<◌, ◌≤◌, true, false, ◌&&◌, length, nat_lt};
-ghost use Rattle.ltl.specs.Words.{bit};
 ghost use Rattle.ltl.specs.Arena.{temporals};
 ghost use Rattle.rule.specs.Rules.{names_in, nodes_in};
 ghost use Rattle.forecast.specs.Forecasts.{holds_at, possible, recast};
 ghost use Rattle.translate.specs.States.{member, set_of};
 ghost use Rattle.translate.specs.Meaning.{rule_moves};
+ghost use Rattle.translate.specs.Sifted.{Part};
 
 use crate::held::RuleAcceptor;
 use crate::state::{Forecasts, State};
@@ -17,9 +17,7 @@ fn word_passing<F: Fn(u8) -> bool>(base: u8, count: usize, among: u64, test: &F)
     requires base { base ≤ 192 }
     requires few { count ≤ 256 }
     requires can { (J : ℕ) → J < count → F.pre test.now J }
-    ensures answers { (k : ℕ) → k < 64 → base + k < count → bit k among ≡ true → F.post test.now (base + k) (bit k result) }
-    ensures others { (k : ℕ) → k < 64 → bit k among ≡ false → bit k result ≡ false }
-    ensures past { (k : ℕ) → k < 64 → count ≤ base + k → bit k result ≡ false }
+    ensures { Part (λ J passes. F.post test.now J passes) count among base result }
 {
     let width = count.saturating_sub(usize::from(base)).min(64) as u8; // at most 64
     let mut word = 0;

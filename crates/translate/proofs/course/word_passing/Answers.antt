@@ -26,11 +26,14 @@ loop-j-preserved g c =
           (record { answers = λ within. absurd (false≢true (sym w.if-has_bit.false ∙ read ∙ within)); others = λ _. refl })
     ]
 
-pub returns-clause-others : goal.returns-clause-others
-returns-clause-others g c = λ k h out. elim (cases_lt k c.loop-j.j) [
-  | inl below ↦ (c.loop-j.invariant.says k below).others out
-  | inr past ↦ gathering_past _ _ _ c.loop-j.invariant k past
-]
-
-pub returns-clause-past : goal.returns-clause-past
-returns-clause-past g c = λ k h past. gathering_past _ _ _ c.loop-j.invariant k (omega (arith, c.min-width.ensures, c.saturating_sub.ensures))
+pub returns : goal.returns
+returns g c =
+    let built = c.loop-j.invariant in
+    record {
+      answers = λ k h low within. (built.says k (omega (arith, c.min-width.ensures, c.saturating_sub.ensures, low))).answers within;
+      others = λ k h out. elim (cases_lt k c.loop-j.j) [
+        | inl below ↦ (built.says k below).others out
+        | inr past ↦ gathering_past _ _ _ built k past
+      ];
+      past = λ k h past. gathering_past _ _ _ built k (omega (arith, c.min-width.ensures, c.saturating_sub.ensures));
+    }
