@@ -28,13 +28,23 @@ fn is_within(n: usize, letter: u8) -> bool
     letter >> n == 0
 }
 
+// The place of the first letter with a bit beyond the names, where there is one.
+fn first_foreign(n: usize, letters: &[u8]) -> Option<usize>
+    ensures { result ≡ position_from (λ l. not (within n l)) 0 letters.now }
+{
+    letters.iter().position(|letter| !is_within(n, *letter))
+}
+
 impl Round<'_> {
-    // The place of the first letter with a bit beyond the names, where there is one.
+    // The same of the whole round. One after the other: a chain of both would ask at each letter in which of them it is.
     fn first_beyond(&self, n: usize) -> Option<usize>
         ensures { result ≡ position_from (λ l. not (within n l)) 0 (self.now.lead.now ++ self.now.cycle.now) }
     {
-        let mut letters = self.lead.iter().chain(self.cycle.iter());
-        letters.position(|letter| !is_within(n, *letter))
+        if let Some(place) = first_foreign(n, self.lead) {
+            return Some(place);
+        }
+        let place = first_foreign(n, self.cycle)?;
+        Some(self.lead.len() + place)
     }
 
     // Whether it is a round over n names: at most 1,024 letters, a cycle of one or more, no bit beyond the names.

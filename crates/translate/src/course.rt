@@ -31,7 +31,7 @@ fn word_passing<F: Fn(u8) -> bool>(base: u8, count: usize, among: u64, test: &F)
 }
 
 impl Forecasts {
-    // The forecasts of a set, all below a count, that pass a test: a word at a time, since most are not even looked at.
+    // The forecasts of a set, all below a count, that pass a test: a word at a time, and what the set lacks is not looked at.
     fn passing<F: Fn(u8) -> bool>(count: usize, among: &Forecasts, test: F) -> Forecasts
         requires few { count ≤ 256 }
         requires can { (J : ℕ) → J < count → F.pre test J }
